@@ -1,0 +1,6 @@
+pub mod BitLaws
+pub mod Below
+pub mod Values
+pub mod Steadiness
+pub mod Operating
+pub mod Asking

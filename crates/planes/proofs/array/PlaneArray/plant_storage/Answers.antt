@@ -1,0 +1,33 @@
+use mathlib.Core.Path.{_≡_, sym, ap, _∙_}
+use Prim.Native.Nat.{_<_, _≤_}
+use native.Mathlib.Omega.{arith}
+use lib.Dec.{ltb}
+use lib.ListN.{length}
+use Rattle.std.specs.Of.Vec.{vec-items}
+use Rattle.std.proofs.shelf.Tests.{and-from, lt-ltb}
+use Rattle.cam.specs.Defects.{isGood, storageWith}
+use Rattle.cam.proofs.Asking.{both-yes}
+use Rattle.planes.specs.Word.{storageOf}
+use Rattle.planes.proofs.Rows.{record-read, build-with-storage, state-settled}
+use Rattle.planes.proofs.array.PlaneArray.plant_storage.Needs as need
+
+pub returns-in-Good : need.returns-in-Good
+returns-in-Good c =
+    let s = c .args .self .now in
+    let rs = vec-items (s .records) in
+    let n = s .words in
+    let a = c .args .word .number in
+    let j = c .args .column .number in
+    let fits : n ≤ length rs = omega (arith, s .records .ok .0) in
+    let inside : a < n = omega arith in
+    let read = c .index-mut .ensures .value in
+    let done = c .plant-storage .ensures in
+    record {
+      asks-place-then-storage = both-yes _ _ 42 43
+        (and-from (ltb a n) (ltb j (s .width)) (lt-ltb a n inside) (lt-ltb j (s .width) (omega arith)))
+        (ap (λ y. isGood (storageOf y j)) (sym (record-read n rs a _ fits inside (c .index .ensures))) ∙ ap isGood (sym (c .in-Good .ensures tt .storage-of-column)));
+      only-this-defect-planted = build-with-storage n rs a _ _ fits inside read (s .width) j (storageWith (c .args .defect))
+        (done .storage-of-column) (done .wrong-sets-stay) (done .stuck-stays);
+      only-held-bit-settled = state-settled n rs a _ _ fits inside read (s .width) (s .tally) j (storageWith (c .args .defect))
+        (λ i. done .held-bits (s .width) i (omega arith) (s .«few_bits»)) (done .mark-stays)
+    }
