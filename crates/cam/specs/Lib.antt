@@ -1,4 +1,5 @@
 pub mod Bits
+pub mod Patterns
 pub mod Model
 pub mod Defects
 pub mod Operations

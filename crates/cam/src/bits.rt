@@ -2,6 +2,8 @@
 ghost use mathlib.Core.Path.{_≡_};
 ghost use Prim.Native.Nat.{_-_, _^_, min};
 ghost use Rattle.cam.specs.Bits.{bit};
+ghost use Rattle.cam.specs.Patterns.{equalBits, allBut};
+use crate::index::ColumnIndex;
 
 // The number whose bits below `width` are set; a width past 64 counts as 64.
 pub fn low_ones(width: u8) -> u64
@@ -19,4 +21,22 @@ pub fn bit_is_set(number: u64, place: u8) -> bool
     ensures bit_at_place { λ r. ⌜ r ≡ bit number place ⌝ }
 {
     place < 64 && (number >> place) & 1 == 1
+}
+
+// `width` equal bits; a width past 64 counts as 64.
+pub fn equal_bits(width: u8, value: bool) -> u64
+    ensures pattern { λ r. ⌜ r ≡ equalBits (min width 64) value ⌝ }
+{
+    if value { low_ones(width) } else { 0 }
+}
+
+// The mask that blocks every column of `width` but one; a width past 64 counts as 64.
+pub fn all_but_column(width: u8, column: ColumnIndex) -> u64
+    ensures mask { λ r. ⌜ r ≡ allBut (min width 64) (column .number) ⌝ }
+{
+    if column.number < width && column.number < 64 {
+        low_ones(width) - (1u64 << column.number)
+    } else {
+        low_ones(width)
+    }
 }
