@@ -4,3 +4,4 @@ pub mod Values
 pub mod Steadiness
 pub mod Operating
 pub mod Asking
+pub mod Patterns

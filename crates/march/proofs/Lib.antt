@@ -1,3 +1,5 @@
 pub mod Lists
 pub mod Machine
 pub mod Masking
+pub mod Lengths
+pub mod Sweeps

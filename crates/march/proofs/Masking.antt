@@ -19,7 +19,7 @@ only-one n a f some others =
 pub all-fails : (n : ℕ) (f : ℕ → Bool) (k : ℕ) → k < n → f k ≡ false → allBelow n f ≡ false
 all-fails n f k l e = split (allBelow n f) (λ t. absurd (both-ways (f k) e (each-below n f t k l))) (λ t. t)
 
-pub no-stand-in : No-stand-in
+pub no-stand-in : (V : Type 0) → No-stand-in V
 no-stand-in V N W a j v mark held answer inside other refuses some =
     let alone : answersAll W (mark a) (held a) (answer a) ≡ true =
       only-one N a (λ k. answersAll W (mark k) (held k) (answer k)) some

@@ -11,9 +11,9 @@ answersAll W mark held answer = mark && allBelow W (λ j. answer j (held j))
 
 -- Word a is compared while every other word holds the symbol v in its column j. If no marked word answers v in
 -- column j as a match, then a hit can come from no word but a: its mark is set, and each of its columns matches.
-abbrev pub No-stand-in : Type 1
-No-stand-in =
-    (V : Type 0) (N W a j : ℕ) (v : V) (mark : ℕ → Bool) (held : ℕ → ℕ → V) (answer : ℕ → ℕ → V → Bool)
+abbrev pub No-stand-in : Type 0 → Type 0
+No-stand-in V =
+    (N W a j : ℕ) (v : V) (mark : ℕ → Bool) (held : ℕ → ℕ → V) (answer : ℕ → ℕ → V → Bool)
     → j < W
     → ((k : ℕ) → k < N → (k ≡ a → ⊥) → held k j ≡ v)
     → ((k : ℕ) → k < N → mark k ≡ true → answer k j v ≡ false)

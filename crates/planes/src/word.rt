@@ -131,22 +131,23 @@ impl WordRecord {
         requires stores_well { ⌜ storageOf (now self) (column .number) ≡ Good ⌝ }
         ensures storage_of_column { λ _. ⌜ ((i : ℕ) → storageOf (now (self .exit)) i ≡ cond (eqb i (column .number)) (storageWith defect) (storageOf (now (self .entry)) i)) ⌝ }
         ensures held_bits { λ _. ⌜ ((w i : ℕ) → column .number < w → w ≤ 64 → shown w (now (self .exit)) i ≡ cond (eqb i (column .number)) (settledBit (storageWith defect) (shown w (now (self .entry)) i)) (shown w (now (self .entry)) i)) ⌝ }
+        ensures stored_bit { λ _. ⌜ bit (now (self .exit) .held) (column .number) ≡ settledBit (storageWith defect) (bit (now (self .entry) .held) (column .number)) ⌝ }
         ensures wrong_sets_stay { λ _. ⌜ wrongOf (now (self .exit)) ≡ wrongOf (now (self .entry)) ⌝ }
         ensures mark_stays { λ _. ⌜ markOf (now (self .exit)) ≡ markOf (now (self .entry)) ⌝ }
         ensures stuck_stays { λ _. ⌜ now (self .exit) .stuck ≡ now (self .entry) .stuck ⌝ }
     {
-        let bit = 1u64 << column.number;
+        let single = 1u64 << column.number;
         match defect {
             StorageDefect::Sa0 => {
-                self.sa0 |= bit;
-                self.held &= !bit;
+                self.sa0 |= single;
+                self.held &= !single;
             }
             StorageDefect::Sa1 => {
-                self.sa1 |= bit;
-                self.held |= bit;
+                self.sa1 |= single;
+                self.held |= single;
             }
-            StorageDefect::NoRise => self.norise |= bit,
-            StorageDefect::NoFall => self.nofall |= bit,
+            StorageDefect::NoRise => self.norise |= single,
+            StorageDefect::NoFall => self.nofall |= single,
         }
     }
 
@@ -159,18 +160,19 @@ impl WordRecord {
         ensures mark_stays { λ _. ⌜ markOf (now (self .exit)) ≡ markOf (now (self .entry)) ⌝ }
         ensures stuck_stays { λ _. ⌜ now (self .exit) .stuck ≡ now (self .entry) .stuck ⌝ }
     {
-        let bit = 1u64 << column.number;
+        let single = 1u64 << column.number;
         match (pair.held, pair.comparand) {
-            (false, false) => self.wrong00 |= bit,
-            (false, true) => self.wrong01 |= bit,
-            (true, true) => self.wrong11 |= bit,
-            (true, false) => self.wrong10 |= bit,
+            (false, false) => self.wrong00 |= single,
+            (false, true) => self.wrong01 |= single,
+            (true, true) => self.wrong11 |= single,
+            (true, false) => self.wrong10 |= single,
         }
     }
 
     // Makes the mark stuck.
     pub(crate) fn stick_mark(&mut self)
         ensures stuck { λ _. ⌜ now (self .exit) .stuck ≡ true ⌝ }
+        ensures stored_mark_clear { λ _. ⌜ now (self .exit) .mark ≡ false ⌝ }
         ensures mark_clear { λ _. ⌜ markOf (now (self .exit)) ≡ false ⌝ }
         ensures storage_stays { λ _. ⌜ storageOf (now (self .exit)) ≡ storageOf (now (self .entry)) ⌝ }
         ensures wrong_sets_stay { λ _. ⌜ wrongOf (now (self .exit)) ≡ wrongOf (now (self .entry)) ⌝ }

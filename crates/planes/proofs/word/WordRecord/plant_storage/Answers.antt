@@ -4,7 +4,7 @@ use Prim.Native.Nat.{ℕ, _<_, _*_, _%_, _^_}
 use native.Mathlib.Omega.{arith}
 use lib.Dec.{eqb, ltb}
 use borrow.Author.Needs.{needs}
-use Rattle.std.proofs.shelf.Tests.{eqb-true, ltb-true}
+use Rattle.std.proofs.shelf.Tests.{eq-eqb, eqb-true, ltb-true}
 use Rattle.std.proofs.shelf.Ways.{tells}
 use Rattle.cam.specs.declared.defect.Storage.the-variants.{Good}
 use Rattle.cam.proofs.BitLaws.{bits, shl-one}
@@ -25,6 +25,7 @@ returns-in-Sa1 c =
     record {
       storage-of-column = λ i. split (eqb i j) (λ e. let good = well r j i (c .pre .stores-well) e in simp (bits, e) (grind arith)) (λ e. simp (bits, e) (grind arith));
       held-bits = λ w i l h. split (eqb i j) (λ e. let good = well r j i (c .pre .stores-well) e in simp (bits, e) (grind (arith, tells))) (λ e. simp (bits, e) (grind arith));
+      stored-bit = let same = eq-eqb j j refl in simp (bits, same) (grind arith);
       wrong-sets-stay = refl;
       mark-stays = refl;
       stuck-stays = refl
@@ -37,7 +38,8 @@ returns-in-NoRise c =
     let in-a-word : j < 64 = c .pre .in-a-word in
     record {
       storage-of-column = λ i. split (eqb i j) (λ e. let good = well r j i (c .pre .stores-well) e in simp (bits, e) (grind arith)) (λ e. simp (bits, e) (grind arith));
-      held-bits = λ w i l h. split (eqb i j) (λ e. let good = well r j i (c .pre .stores-well) e in simp (bits, e) (grind (arith, tells))) (λ e. simp (bits, e) (grind arith));
+      held-bits = λ w i l h. split (eqb i j) (λ e. simp e (grind arith)) (λ e. simp e (grind arith));
+      stored-bit = grind arith;
       wrong-sets-stay = refl;
       mark-stays = refl;
       stuck-stays = refl
@@ -50,7 +52,8 @@ returns-in-NoFall c =
     let in-a-word : j < 64 = c .pre .in-a-word in
     record {
       storage-of-column = λ i. split (eqb i j) (λ e. let good = well r j i (c .pre .stores-well) e in simp (bits, e) (grind arith)) (λ e. simp (bits, e) (grind arith));
-      held-bits = λ w i l h. split (eqb i j) (λ e. let good = well r j i (c .pre .stores-well) e in simp (bits, e) (grind (arith, tells))) (λ e. simp (bits, e) (grind arith));
+      held-bits = λ w i l h. split (eqb i j) (λ e. simp e (grind arith)) (λ e. simp e (grind arith));
+      stored-bit = grind arith;
       wrong-sets-stay = refl;
       mark-stays = refl;
       stuck-stays = refl
@@ -67,6 +70,7 @@ returns-in-Sa0 c =
       held-bits = λ w i l h. split (ltb i w)
         (λ t. let i64 : i < 64 = omega (arith, ltb-true i w t) in split (eqb i j) (λ e. simp (bits, e, t) (grind arith)) (λ e. simp (bits, e, t) (grind arith)))
         (λ t. simp t (grind arith));
+      stored-bit = let same = eq-eqb j j refl in simp (bits, same) (grind arith);
       wrong-sets-stay = refl;
       mark-stays = refl;
       stuck-stays = refl

@@ -1,0 +1,5 @@
+pub mod Lengths
+pub mod Lefts
+pub mod Wents
+pub mod Halves
+pub mod Separating

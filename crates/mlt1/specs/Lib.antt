@@ -1,0 +1,3 @@
+pub mod Mlt1
+pub mod Left
+pub mod Separation
