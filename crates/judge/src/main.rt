@@ -1,4 +1,5 @@
-// Judges an array. So far it makes one array of its own with two defects, operates it by hand and says what it did.
+// Judges an array. So far it makes one array of its own with two defects, operates it by hand, runs MLT-1 on it, and
+// says what it did and found.
 use cam::array::CamArray;
 use cam::defect::Pair;
 use cam::defect::StorageDefect;
@@ -8,6 +9,8 @@ use cam::index::WordIndex;
 use cam::operation::Answer;
 use cam::operation::Operation;
 use cam::operation::operate;
+use mlt1::table::operation_count;
+use mlt1::whole::run_mlt1;
 use planes::array::NotMade;
 use planes::array::PlaneArray;
 use planes::operating::PlaneCam;
@@ -87,6 +90,10 @@ fn judge_example(rt: &LibcRuntime) -> Result<(), AnyError> {
         report(rt, operation, answer, remark)?;
     }
     println!(rt, "operations {}", array.tally())?;
+    let operations = operation_count(array.words(), array.width());
+    let misses = run_mlt1(&mut array);
+    let finding = if misses == 0 { "sound" } else { "faulty" };
+    println!(rt, "run {operations} misses {misses} {finding}")?;
     Ok(())
 }
 

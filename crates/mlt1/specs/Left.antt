@@ -46,6 +46,17 @@ Next N W s (Some x) =
 abbrev pub plus : ℕ → ℕ → ℕ
 plus a b = max a (min (a + b) (2 ^ 32 - 1))
 
+-- the state past the step at which it stands
+abbrev pub passed : Bool → RunState → RunState
+passed missed s =
+    record {
+      element = s .element;
+      visit = s .visit;
+      operation = s .operation + 1;
+      place = plus (s .place) 1;
+      misses = plus (s .misses) (cond missed 1 0)
+    }
+
 -- A run went from s to t and did the next n steps: the array, whose state was S and is T, had just these done to it,
 -- their misses are counted, and what is left is what comes after them.
 pub record Went (B : Build) (n : ℕ) (s t : RunState) (S T : State) : Type 0 where

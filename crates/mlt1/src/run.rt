@@ -47,11 +47,8 @@ impl RunState {
         match self.next_step(array.words(), array.width()) {
             None => false,
             Some(step) => {
-                if perform(array, step) {
-                    self.misses = self.misses.saturating_add(1);
-                }
-                self.operation += 1;
-                self.place = self.place.saturating_add(1);
+                let missed = perform(array, step);
+                self.pass(missed);
                 true
             }
         }

@@ -3,7 +3,7 @@ ghost use mathlib.Core.Path.{_≡_};
 ghost use mathlib.Core.List.{_∷_};
 ghost use Prim.Native.Nat.{ℕ, _+_, _<_, min};
 ghost use Rattle.std.specs.Options.{Cases as BySome};
-ghost use Rattle.mlt1.specs.Left.{leftOf, left, Next};
+ghost use Rattle.mlt1.specs.Left.{left, Next, passed};
 use crate::table::element;
 use march::step::Step;
 
@@ -40,5 +40,17 @@ impl RunState {
             self.operation = 0;
         }
         None
+    }
+
+    // Moves on past a step that was done, and counts it and its miss.
+    pub(crate) fn pass(&mut self, missed: bool)
+        requires operation_of_a_visit { ⌜ now self .operation < 8 ⌝ }
+        ensures next_operation { λ _. ⌜ now (self .exit) ≡ passed missed (now (self .entry)) ⌝ }
+    {
+        self.operation += 1;
+        self.place = self.place.saturating_add(1);
+        if missed {
+            self.misses = self.misses.saturating_add(1);
+        }
     }
 }
