@@ -110,7 +110,7 @@ pub bit-other : (i j : ℕ) → (j ≡ i → ⊥) → bit (2 ^ i) j ≡ false
 unfolding bit
 bit-other i j ne = ⊎-elim
     (λ (l : j < i). let e : i ≡ suc (i - suc j) + j = omega arith in
-       ne-eqb _ 1 (λ q. omega (arith, q, ap (λ (x : ℕ). 2 ^ x / 2 ^ j % 2) e ∙ ap (λ (x : ℕ). x / 2 ^ j % 2) (pow-add 2 (suc (i - suc j)) j) ∙ ap (λ (x : ℕ). x % 2) (shl-shr (2 ^ suc (i - suc j)) j), pow-suc 2 (i - suc j))))
+    ne-eqb _ 1 (λ q. omega (arith, q, ap (λ (x : ℕ). 2 ^ x / 2 ^ j % 2) e ∙ ap (λ (x : ℕ). x / 2 ^ j % 2) (pow-add 2 (suc (i - suc j)) j) ∙ ap (λ (x : ℕ). x % 2) (shl-shr (2 ^ suc (i - suc j)) j), pow-suc 2 (i - suc j))))
     (λ (l : i ≤ j). let s : i < j = omega arith in bit-past (2 ^ i) j (pow-lt s))
     (cases-lt j i)
 

@@ -32,7 +32,7 @@ steady-operated B (Write a p m) S st =
     record {
       low = λ k j hk hj e. bit-stays (here B (a .number) k) (open-column j) (B .storage k j) (S .held k j) (bit p j) false (ap (λ s. put s (S .held k j) (bit p j)) e) (st .low k j hk hj e);
       high = λ k j hk hj e. bit-stays (here B (a .number) k) (open-column j) (B .storage k j) (S .held k j) (bit p j) true (ap (λ s. put s (S .held k j) (bit p j)) e) (st .high k j hk hj e);
-      clear = λ k hk e. mark-stays (here B (a .number) k) (B .stuck k) (S .mark k) e (st .clear k hk e)
+      clear = λ k hk e. mark-stays (here B (a .number) k) (B .stuck k) (S .mark k) e (st .clear k hk e);
     }
 steady-operated B (Read a) S st = record { low = st .low; high = st .high; clear = st .clear }
 steady-operated B (Compare p m) S st = record { low = st .low; high = st .high; clear = st .clear }

@@ -37,17 +37,17 @@ value-bits (suc n) x =
 
 -- the low n bits of x as the model reads a word
 pub value-low : (n x o : ℕ) (f : ℕ → Bool)
-  → n ≤ 64 → o ≡ 2 ^ min n 64 - 1 → ((j : ℕ) → j < n → bit x j ≡ f j) → bitAnd x o ≡ value n f
+    → n ≤ 64 → o ≡ 2 ^ min n 64 - 1 → ((j : ℕ) → j < n → bit x j ≡ f j) → bitAnd x o ≡ value n f
 value-low n x o f l e h =
     ap (bitAnd x) (ones-of n o l e) ∙ and-mask x n ∙ sym (value-bits n x) ∙ value-same n (bit x) f h
 
 -- no bit below w is set, as a test of the whole number
 pub none-set : (w x o : ℕ) (f : ℕ → Bool)
-  → w ≤ 64 → o ≡ 2 ^ min w 64 - 1 → ((j : ℕ) → j < w → not (bit x j) ≡ f j) → eqb (bitAnd x o) 0 ≡ allBelow w f
+    → w ≤ 64 → o ≡ 2 ^ min w 64 - 1 → ((j : ℕ) → j < w → not (bit x j) ≡ f j) → eqb (bitAnd x o) 0 ≡ allBelow w f
 none-set w x o f s q h =
     ap (λ (o : ℕ). eqb (bitAnd x o) 0) (ones-of w o s q)
     ∙ split (allBelow w f)
-      (λ t. eq-eqb _ 0 (same-bits w _ 0 (mask-lt x w) (pow-pos w) (λ j l. bit-low x w j l ∙ not-true (bit x j) (h j l ∙ each-below w f t j l) ∙ sym (bit-zero j))) ∙ sym t)
-      (λ t. split (eqb (bitAnd x (2 ^ w - 1)) 0)
-         (λ e. absurd (both-ways (allBelow w f) t (all-true w f (λ j l. sym (h j l) ∙ not-from-false (bit x j) (sym (bit-low x w j l) ∙ ap (λ (n : ℕ). bit n j) (eqb-true _ 0 e) ∙ bit-zero j)))))
-         (λ e. e ∙ sym t))
+    (λ t. eq-eqb _ 0 (same-bits w _ 0 (mask-lt x w) (pow-pos w) (λ j l. bit-low x w j l ∙ not-true (bit x j) (h j l ∙ each-below w f t j l) ∙ sym (bit-zero j))) ∙ sym t)
+    (λ t. split (eqb (bitAnd x (2 ^ w - 1)) 0)
+    (λ e. absurd (both-ways (allBelow w f) t (all-true w f (λ j l. sym (h j l) ∙ not-from-false (bit x j) (sym (bit-low x w j l) ∙ ap (λ (n : ℕ). bit n j) (eqb-true _ 0 e) ∙ bit-zero j)))))
+    (λ e. e ∙ sym t))

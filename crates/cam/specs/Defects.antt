@@ -74,7 +74,7 @@ flawless N W =
       width = W;
       storage = λ k j. Good;
       wrong = λ k j h b. false;
-      stuck = λ k. false
+      stuck = λ k. false;
     }
 
 -- bits 0, marks clear, nothing done
@@ -93,7 +93,7 @@ withStorage a j s B =
       width = B .width;
       storage = λ k i. cond (sameCell a j k i) s (B .storage k i);
       wrong = B .wrong;
-      stuck = B .stuck
+      stuck = B .stuck;
     }
 
 -- what a cell that holds h holds when it gets this storage
@@ -109,7 +109,7 @@ settled a j s S =
     record {
       held = λ k i. cond (sameCell a j k i) (settledBit s (S .held k i)) (S .held k i);
       mark = S .mark;
-      tally = S .tally
+      tally = S .tally;
     }
 
 -- the pair (held, comparand), as a test of a pair
@@ -124,7 +124,7 @@ withPair a j held comparand B =
       width = B .width;
       storage = B .storage;
       wrong = λ k i h b. (sameCell a j k i && isPair held comparand h b) || B .wrong k i h b;
-      stuck = B .stuck
+      stuck = B .stuck;
     }
 
 -- the mark of word a is stuck, and all else is as it was
@@ -135,7 +135,7 @@ withStuckMark a B =
       width = B .width;
       storage = B .storage;
       wrong = B .wrong;
-      stuck = λ k. eqb k a || B .stuck k
+      stuck = λ k. eqb k a || B .stuck k;
     }
 
 -- the mark of word a is clear, and all else is as it was

@@ -78,7 +78,7 @@ written B a p m S =
     record {
       held = λ k j. cond (here B a k) (writtenBit (B .width) (B .storage k) p m (S .held k) j) (S .held k j);
       mark = λ k. cond (here B a k) (markAfterWrite (B .stuck k) (S .mark k)) (S .mark k);
-      tally = oneMore (S .tally)
+      tally = oneMore (S .tally);
     }
 
 -- after an erase of word a

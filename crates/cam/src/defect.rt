@@ -100,6 +100,11 @@ impl NamedFault {
             NamedFault::Im1f => (false, false, false, true),
             NamedFault::Im0f => (false, true, false, false),
         };
-        WrongSet { has00, has01, has11, has10 }
+        WrongSet {
+            has00,
+            has01,
+            has11,
+            has10,
+        }
     }
 }

@@ -38,7 +38,11 @@ impl Fault {
         ensures refused_without_text { λ r. ⌜ Refused (reasonNumber reason) r ⌝ }
         ensures reason_given { λ r. ⌜ r .reason ≡ reason ⌝ }
     {
-        Fault { reason, layer: Layer::Call, place: 0 }
+        Fault {
+            reason,
+            layer: Layer::Call,
+            place: 0,
+        }
     }
 
     pub fn number(self) -> u8

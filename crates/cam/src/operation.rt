@@ -9,10 +9,21 @@ use crate::index::WordIndex;
 
 #[derive(Clone, Copy)]
 pub enum Operation {
-    Write { word: WordIndex, pattern: u64, mask: u64 },
-    Read { word: WordIndex },
-    Compare { pattern: u64, mask: u64 },
-    Erase { word: WordIndex },
+    Write {
+        word: WordIndex,
+        pattern: u64,
+        mask: u64,
+    },
+    Read {
+        word: WordIndex,
+    },
+    Compare {
+        pattern: u64,
+        mask: u64,
+    },
+    Erase {
+        word: WordIndex,
+    },
 }
 
 // What an operation answers: a write and an erase nothing, a read the held bits, a compare the hit.
@@ -30,7 +41,11 @@ pub fn operate<C: CamArray>(array: &mut C, operation: Operation) -> Answer
     ensures build_stays { λ _. ⌜ build (now (array .exit)) ≡ build (now (array .entry)) ⌝ }
 {
     match operation {
-        Operation::Write { word, pattern, mask } => {
+        Operation::Write {
+            word,
+            pattern,
+            mask,
+        } => {
             array.write(word, pattern, mask);
             Answer::Nothing
         }

@@ -20,6 +20,7 @@ use std::error::AnyError;
 use std::io;
 
 const WORDS: u16 = 2;
+
 const WIDTH: u8 = 3;
 
 // A refusal as the text that the program ends with.
@@ -40,8 +41,19 @@ fn example_array(heap: Global) -> Result<PlaneArray, AnyError> {
         Ok(array) => array,
         Err(NotMade { records: _, fault }) => return Err(refused(heap, fault)),
     };
-    let sa0 = array.plant_storage(WordIndex { number: 1 }, ColumnIndex { number: 2 }, StorageDefect::Sa0);
-    let wrong = array.plant_pair(WordIndex { number: 0 }, ColumnIndex { number: 0 }, Pair { held: false, comparand: true });
+    let sa0 = array.plant_storage(
+        WordIndex { number: 1 },
+        ColumnIndex { number: 2 },
+        StorageDefect::Sa0,
+    );
+    let wrong = array.plant_pair(
+        WordIndex { number: 0 },
+        ColumnIndex { number: 0 },
+        Pair {
+            held: false,
+            comparand: true,
+        },
+    );
     match (sa0, wrong) {
         (Ok(()), Ok(())) => Ok(array),
         (Err(fault), _) => Err(refused(heap, fault)),
@@ -54,24 +66,83 @@ fn example_operations() -> [(Operation, &'static str); 9] {
     let first = WordIndex { number: 0 };
     let second = WordIndex { number: 1 };
     [
-        (Operation::Write { word: first, pattern: 0b000, mask: 0 }, "word 0 is marked and holds 000"),
-        (Operation::Write { word: second, pattern: 0b111, mask: 0 }, "word 1 is marked; its cell 2 stays 0"),
-        (Operation::Read { word: second }, "111 was written: cell (1, 2) is stuck at 0"),
-        (Operation::Compare { pattern: 0b111, mask: 0b000 }, "no word holds 111, though one was written so"),
-        (Operation::Compare { pattern: 0b111, mask: 0b100 }, "with column 2 blocked word 1 matches"),
-        (Operation::Erase { word: second }, "word 1 loses its mark and keeps its bits"),
-        (Operation::Compare { pattern: 0b111, mask: 0b100 }, "a word without a mark does not match"),
-        (Operation::Compare { pattern: 0b001, mask: 0b000 }, "word 0 holds 000: cell (0, 0) answers 01 wrongly"),
-        (Operation::Read { word: first }, "what a cell holds is not touched by a wrong answer"),
+        (
+            Operation::Write {
+                word: first,
+                pattern: 0b000,
+                mask: 0,
+            },
+            "word 0 is marked and holds 000",
+        ),
+        (
+            Operation::Write {
+                word: second,
+                pattern: 0b111,
+                mask: 0,
+            },
+            "word 1 is marked; its cell 2 stays 0",
+        ),
+        (
+            Operation::Read { word: second },
+            "111 was written: cell (1, 2) is stuck at 0",
+        ),
+        (
+            Operation::Compare {
+                pattern: 0b111,
+                mask: 0b000,
+            },
+            "no word holds 111, though one was written so",
+        ),
+        (
+            Operation::Compare {
+                pattern: 0b111,
+                mask: 0b100,
+            },
+            "with column 2 blocked word 1 matches",
+        ),
+        (
+            Operation::Erase { word: second },
+            "word 1 loses its mark and keeps its bits",
+        ),
+        (
+            Operation::Compare {
+                pattern: 0b111,
+                mask: 0b100,
+            },
+            "a word without a mark does not match",
+        ),
+        (
+            Operation::Compare {
+                pattern: 0b001,
+                mask: 0b000,
+            },
+            "word 0 holds 000: cell (0, 0) answers 01 wrongly",
+        ),
+        (
+            Operation::Read { word: first },
+            "what a cell holds is not touched by a wrong answer",
+        ),
     ]
 }
 
 // One operation and its answer in plain words; patterns and masks with column 2 first.
 fn report(rt: &LibcRuntime, operation: Operation, answer: Answer, remark: &str) -> io::Result<()> {
     match operation {
-        Operation::Write { word, pattern, mask } => print!(rt, "write {:03b} to word {}, mask {:03b}", pattern, word.number, mask)?,
+        Operation::Write {
+            word,
+            pattern,
+            mask,
+        } => print!(
+            rt,
+            "write {:03b} to word {}, mask {:03b}",
+            pattern, word.number, mask
+        )?,
         Operation::Read { word } => print!(rt, "read word {}", word.number)?,
-        Operation::Compare { pattern, mask } => print!(rt, "compare {:03b}, mask {:03b}", pattern, mask)?,
+        Operation::Compare { pattern, mask } => print!(
+            rt,
+            "compare {:03b}, mask {:03b}",
+            pattern, mask
+        )?,
         Operation::Erase { word } => print!(rt, "erase word {}", word.number)?,
     }
     match answer {

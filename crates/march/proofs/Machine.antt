@@ -27,7 +27,7 @@ upward-reversed zero f = refl
 upward-reversed (suc n) f =
     ap₂ _++_
     (upward-same n (λ v. f (suc n - 1 - v)) (λ v. f (suc (n - 1 - v))) (λ k l. let e : suc n - 1 - k ≡ suc (n - 1 - k) = omega arith in ap f e)
-     ∙ upward-reversed n (λ k. f (suc k)))
+    ∙ upward-reversed n (λ k. f (suc k)))
     (let e : suc n - 1 - n ≡ 0 = omega arith in ap f e)
     ∙ sym (downward-last n f)
 
@@ -62,7 +62,7 @@ module _ {X St : Type 0} (step : X → St → St) (missed : X → St → ℕ) wh
   module _ (N : ℕ) (f : ℕ → List X) where
     -- what each visit keeps, the sweep keeps
     pub kept : (Q : St → Type 0) (n : ℕ) → n ≤ N → ((k : ℕ) (S : St) → k < n → Q S → Q (afterOf step (f k) S))
-      → (dir : Bool) (S : St) → Q S → Q (afterOf step (sweep dir n f) S)
+        → (dir : Bool) (S : St) → Q S → Q (afterOf step (sweep dir n f) S)
     kept Q zero l keep true S q = q
     kept Q zero l keep false S q = q
     kept Q (suc n) l keep true S q =
@@ -74,10 +74,10 @@ module _ {X St : Type 0} (step : X → St → St) (missed : X → St → ℕ) wh
 
     -- from a run with no miss: I holds before and after each visit, and a visit of k shows Q k
     pub gather : (I : St → Type 0) (Q : ℕ → St → Type 0)
-      → ((k : ℕ) (S : St) → k < N → I S → missesOf step missed (f k) S ≡ 0 → I (afterOf step (f k) S) × Q k (afterOf step (f k) S))
-      → ((k i : ℕ) (S : St) → k < N → i < N → Q i S → Q i (afterOf step (f k) S))
-      → (dir : Bool) (n : ℕ) → n ≤ N → (S : St) → I S → missesOf step missed (sweep dir n f) S ≡ 0
-      → I (afterOf step (sweep dir n f) S) × ((i : ℕ) → i < n → Q i (afterOf step (sweep dir n f) S))
+        → ((k : ℕ) (S : St) → k < N → I S → missesOf step missed (f k) S ≡ 0 → I (afterOf step (f k) S) × Q k (afterOf step (f k) S))
+        → ((k i : ℕ) (S : St) → k < N → i < N → Q i S → Q i (afterOf step (f k) S))
+        → (dir : Bool) (n : ℕ) → n ≤ N → (S : St) → I S → missesOf step missed (sweep dir n f) S ≡ 0
+        → I (afterOf step (sweep dir n f) S) × ((i : ℕ) → i < n → Q i (afterOf step (sweep dir n f) S))
     gather I Q visit keep true zero l S i h = (i, λ k g. absurd (omega arith))
     gather I Q visit keep false zero l S i h = (i, λ k g. absurd (omega arith))
     gather I Q visit keep true (suc n) l S i h =
@@ -97,8 +97,8 @@ module _ {X St : Type 0} (step : X → St → St) (missed : X → St → ℕ) wh
 
     -- that a run has no miss: a visit of k passes where P k holds, and no visit of another word breaks P k
     pub passes : (P : ℕ → St → Type 0) → ((k : ℕ) (S : St) → k < N → P k S → missesOf step missed (f k) S ≡ 0)
-      → ((k i : ℕ) (S : St) → k < N → i < N → (i ≡ k → ⊥) → P i S → P i (afterOf step (f k) S))
-      → (dir : Bool) (n : ℕ) → n ≤ N → (S : St) → ((i : ℕ) → i < n → P i S) → missesOf step missed (sweep dir n f) S ≡ 0
+        → ((k i : ℕ) (S : St) → k < N → i < N → (i ≡ k → ⊥) → P i S → P i (afterOf step (f k) S))
+        → (dir : Bool) (n : ℕ) → n ≤ N → (S : St) → ((i : ℕ) → i < n → P i S) → missesOf step missed (sweep dir n f) S ≡ 0
     passes P visit keep true zero l S p = refl
     passes P visit keep false zero l S p = refl
     passes P visit keep true (suc n) l S p =

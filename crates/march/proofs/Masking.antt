@@ -13,7 +13,7 @@ pub only-one : (n a : ℕ) (f : ℕ → Bool) → anyBelow n f ≡ true → ((k 
 only-one n a f some others =
     split (f a) (λ t. t)
     (λ t. absurd (both-ways (anyBelow n f)
-       (any-none n f (λ k l. split (eqb k a) (λ e. ap f (eqb-true k a e) ∙ t) (λ e. others k l (eqb-false k a e)))) some))
+    (any-none n f (λ k l. split (eqb k a) (λ e. ap f (eqb-true k a e) ∙ t) (λ e. others k l (eqb-false k a e)))) some))
 
 -- a column that does not match
 pub all-fails : (n : ℕ) (f : ℕ → Bool) (k : ℕ) → k < n → f k ≡ false → allBelow n f ≡ false
@@ -22,9 +22,9 @@ all-fails n f k l e = split (allBelow n f) (λ t. absurd (both-ways (f k) e (eac
 pub no-stand-in : (V : Type 0) → No-stand-in V
 no-stand-in V N W a j v mark held answer inside other refuses some =
     let alone : answersAll W (mark a) (held a) (answer a) ≡ true =
-      only-one N a (λ k. answersAll W (mark k) (held k) (answer k)) some
-      (λ k l ne. split (mark k)
-         (λ t. and-right (mark k) _ (all-fails W (λ i. answer k i (held k i)) j inside (ap (answer k j) (other k l ne) ∙ refuses k l t)))
-         (λ t. and-left (mark k) _ t)) in
+    only-one N a (λ k. answersAll W (mark k) (held k) (answer k)) some
+    (λ k l ne. split (mark k)
+    (λ t. and-right (mark k) _ (all-fails W (λ i. answer k i (held k i)) j inside (ap (answer k j) (other k l ne) ∙ refuses k l t)))
+    (λ t. and-left (mark k) _ t)) in
     let both = and-parts (mark a) (allBelow W (λ i. answer a i (held a i))) alone in
     (both .0, λ i l. each-below W (λ i. answer a i (held a i)) (both .1) i l)

@@ -28,19 +28,19 @@ both-pass B = R.both-pass (stepped B) (missed B)
 
 module _ (B : Build) (N : ℕ) (f : ℕ → List Step) where
   pub kept : (Q : State → Type 0) (n : ℕ) → n ≤ N → ((k : ℕ) (S : State) → k < n → Q S → Q (after B (f k) S))
-    → (dir : Bool) (S : State) → Q S → Q (after B (sweep dir n f) S)
+      → (dir : Bool) (S : State) → Q S → Q (after B (sweep dir n f) S)
   kept = R.kept (stepped B) (missed B) N f
 
   pub gather : (I : State → Type 0) (Q : ℕ → State → Type 0)
-    → ((k : ℕ) (S : State) → k < N → I S → misses B (f k) S ≡ 0 → I (after B (f k) S) × Q k (after B (f k) S))
-    → ((k i : ℕ) (S : State) → k < N → i < N → Q i S → Q i (after B (f k) S))
-    → (dir : Bool) (n : ℕ) → n ≤ N → (S : State) → I S → misses B (sweep dir n f) S ≡ 0
-    → I (after B (sweep dir n f) S) × ((i : ℕ) → i < n → Q i (after B (sweep dir n f) S))
+      → ((k : ℕ) (S : State) → k < N → I S → misses B (f k) S ≡ 0 → I (after B (f k) S) × Q k (after B (f k) S))
+      → ((k i : ℕ) (S : State) → k < N → i < N → Q i S → Q i (after B (f k) S))
+      → (dir : Bool) (n : ℕ) → n ≤ N → (S : State) → I S → misses B (sweep dir n f) S ≡ 0
+      → I (after B (sweep dir n f) S) × ((i : ℕ) → i < n → Q i (after B (sweep dir n f) S))
   gather = R.gather (stepped B) (missed B) N f
 
   pub passes : (P : ℕ → State → Type 0) → ((k : ℕ) (S : State) → k < N → P k S → misses B (f k) S ≡ 0)
-    → ((k i : ℕ) (S : State) → k < N → i < N → (i ≡ k → ⊥) → P i S → P i (after B (f k) S))
-    → (dir : Bool) (n : ℕ) → n ≤ N → (S : State) → ((i : ℕ) → i < n → P i S) → misses B (sweep dir n f) S ≡ 0
+      → ((k i : ℕ) (S : State) → k < N → i < N → (i ≡ k → ⊥) → P i S → P i (after B (f k) S))
+      → (dir : Bool) (n : ℕ) → n ≤ N → (S : State) → ((i : ℕ) → i < n → P i S) → misses B (sweep dir n f) S ≡ 0
   passes = R.passes (stepped B) (missed B) N f
 
 after-operations : (B : Build) (ss : List Step) (S : State) → after B ss S ≡ afterAll B (map (λ s. s .operation) ss) S

@@ -52,7 +52,11 @@ impl TestOperation {
     {
         match self {
             TestOperation::Write(bit) => Step {
-                operation: Operation::Write { word, pattern: equal_bits(width, bit), mask: 0 },
+                operation: Operation::Write {
+                    word,
+                    pattern: equal_bits(width, bit),
+                    mask: 0,
+                },
                 expected: Expectation::Nothing,
             },
             TestOperation::Read(bit) => Step {
@@ -60,10 +64,16 @@ impl TestOperation {
                 expected: Expectation::Bits(equal_bits(width, bit)),
             },
             TestOperation::Compare(comparison) => Step {
-                operation: Operation::Compare { pattern: equal_bits(width, comparison.bit), mask: 0 },
+                operation: Operation::Compare {
+                    pattern: equal_bits(width, comparison.bit),
+                    mask: 0,
+                },
                 expected: Expectation::Hit(comparison.hit),
             },
-            TestOperation::Erase => Step { operation: Operation::Erase { word }, expected: Expectation::Nothing },
+            TestOperation::Erase => Step {
+                operation: Operation::Erase { word },
+                expected: Expectation::Nothing,
+            },
         }
     }
 }
@@ -97,13 +107,27 @@ impl Element {
             return None;
         }
         match self {
-            Element::Up(operations) => step_at_word(operations, operation, WordIndex { number: visit }, width),
+            Element::Up(operations) => step_at_word(
+                operations,
+                operation,
+                WordIndex { number: visit },
+                width,
+            ),
             Element::Down(operations) => {
-                let word = WordIndex { number: words.saturating_sub(1).saturating_sub(visit) };
+                let word = WordIndex {
+                    number: words.saturating_sub(1).saturating_sub(visit),
+                };
                 step_at_word(operations, operation, word, width)
             }
             Element::Columns(comparisons) => {
-                step_on_column(comparisons, operation, ColumnIndex { number: visit as u8 }, width)
+                step_on_column(
+                    comparisons,
+                    operation,
+                    ColumnIndex {
+                        number: visit as u8,
+                    },
+                    width,
+                )
             }
         }
     }
@@ -120,7 +144,12 @@ fn step_at_word(operations: &Few<TestOperation>, at: u8, word: WordIndex, width:
 }
 
 // Compare `at` of a list, on a column.
-fn step_on_column(comparisons: &Few<Comparison>, at: u8, column: ColumnIndex, width: u8) -> Option<Step>
+fn step_on_column(
+    comparisons: &Few<Comparison>,
+    at: u8,
+    column: ColumnIndex,
+    width: u8,
+) -> Option<Step>
     ensures step_of_list { λ r. ⌜ r ≡ nth (map (onColumn (min width 64) (column .number)) (listed (now (comparisons .entry)))) at ⌝ }
 {
     match comparisons.get(at) {

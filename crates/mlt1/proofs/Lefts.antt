@@ -34,12 +34,12 @@ rest-from : (N W : ℕ) (e : Element) (v : ℕ) → restOf N W e v 0 ≡ fromOn 
 rest-from N W e v =
     split (ltb v (visits N W e))
     (λ t.
-       let l : v < visits N W e = ltb-true v (visits N W e) t in
-       let m : visits N W e - v ≡ suc (visits N W e - suc v) = omega arith in
-       cond-true (ltb v (visits N W e)) _ _ t ∙ sym (ap (λ (n : ℕ). fromOn n v (visit N W e)) m))
+    let l : v < visits N W e = ltb-true v (visits N W e) t in
+    let m : visits N W e - v ≡ suc (visits N W e - suc v) = omega arith in
+    cond-true (ltb v (visits N W e)) _ _ t ∙ sym (ap (λ (n : ℕ). fromOn n v (visit N W e)) m))
     (λ t.
-       let m : visits N W e - v ≡ 0 = omega (arith, ltb-false v (visits N W e) t) in
-       cond-false (ltb v (visits N W e)) _ _ t ∙ sym (ap (λ (n : ℕ). fromOn n v (visit N W e)) m))
+    let m : visits N W e - v ≡ 0 = omega (arith, ltb-false v (visits N W e) t) in
+    cond-false (ltb v (visits N W e)) _ _ t ∙ sym (ap (λ (n : ℕ). fromOn n v (visit N W e)) m))
 
 -- at the start of a list of elements its whole schedule is left
 pub left-start : (N W : ℕ) (es : List Element) → leftIn N W es 0 0 ≡ schedule N W es
@@ -47,7 +47,7 @@ left-start N W [] = refl
 left-start N W (e ∷ es) =
     ap (λ xs. xs ++ schedule N W es)
     (rest-from N W e 0 ∙ ap (λ (n : ℕ). fromOn n 0 (visit N W e)) (let z : visits N W e - 0 ≡ visits N W e = omega arith in z)
-     ∙ from-start (visits N W e) (visit N W e))
+    ∙ from-start (visits N W e) (visit N W e))
 
 drop-nth : {X : Type 0} (xs : List X) (o : ℕ) (x : X) → Some x ≡ nth xs o → drop o xs ≡ x ∷ drop (suc o) xs
 drop-nth [] o x e = absurd (true≢false (ap isSome e))

@@ -56,16 +56,17 @@ module _ (B : Build) where
       record {
         good = good;
         right = λ k j hk hj. elim [
-            true ↦ elim [ true ↦ r1 k hk .1 j hj | false ↦ s0 .1 k hk (r0 k hk .0) j hj ]
-          | false ↦ elim [ true ↦ s1 .1 k hk (r0 k hk .0) j hj | false ↦ r0 k hk .1 j hj ] ];
-        free = λ k hk. r0 k hk .0
+          | true ↦ elim [ true ↦ r1 k hk .1 j hj | false ↦ s0 .1 k hk (r0 k hk .0) j hj ]
+          | false ↦ elim [ true ↦ s1 .1 k hk (r0 k hk .0) j hj | false ↦ r0 k hk .1 j hj ]
+        ];
+        free = λ k hk. r0 k hk .0;
       }
 
   from : (S : State) → Steady B S → Sound B → misses B (E1 ++ tail) S ≡ 0
   from S st sound =
       both-pass B E1 tail S (start-passes S)
       (half-passes B sound true true (half B false false []) (after B E1 S) (start-uniform (sound .good) S st)
-         (λ T u. half-passes B sound false false [] T u (λ U v. refl)))
+      (λ T u. half-passes B sound false false [] T u (λ U v. refl)))
 
 pub separates : Separates
 separates B S w1 st =

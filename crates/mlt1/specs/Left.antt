@@ -54,7 +54,7 @@ passed missed s =
       visit = s .visit;
       operation = s .operation + 1;
       place = plus (s .place) 1;
-      misses = plus (s .misses) (cond missed 1 0)
+      misses = plus (s .misses) (cond missed 1 0);
     }
 
 -- A run went from s to t and did the next n steps: the array, whose state was S and is T, had just these done to it,

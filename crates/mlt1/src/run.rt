@@ -20,7 +20,13 @@ impl RunState {
         ensures at_place_0 { λ r. ⌜ r .place ≡ 0 ⌝ }
         ensures no_miss_yet { λ r. ⌜ r .misses ≡ 0 ⌝ }
     {
-        RunState { element: 0, visit: 0, operation: 0, place: 0, misses: 0 }
+        RunState {
+            element: 0,
+            visit: 0,
+            operation: 0,
+            place: 0,
+            misses: 0,
+        }
     }
 
     // How many operations the run has done.

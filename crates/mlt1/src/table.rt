@@ -13,13 +13,32 @@ use march::element::TestOperation;
 use march::few::Few;
 
 const W0: TestOperation = TestOperation::Write(false);
+
 const W1: TestOperation = TestOperation::Write(true);
+
 const R0: TestOperation = TestOperation::Read(false);
+
 const R1: TestOperation = TestOperation::Read(true);
-const C0_HIT: TestOperation = TestOperation::Compare(Comparison { bit: false, hit: true });
-const C1_HIT: TestOperation = TestOperation::Compare(Comparison { bit: true, hit: true });
-const C0_NONE: Comparison = Comparison { bit: false, hit: false };
-const C1_NONE: Comparison = Comparison { bit: true, hit: false };
+
+const C0_HIT: TestOperation = TestOperation::Compare(Comparison {
+    bit: false,
+    hit: true,
+});
+
+const C1_HIT: TestOperation = TestOperation::Compare(Comparison {
+    bit: true,
+    hit: true,
+});
+
+const C0_NONE: Comparison = Comparison {
+    bit: false,
+    hit: false,
+};
+
+const C1_NONE: Comparison = Comparison {
+    bit: true,
+    hit: false,
+};
 // fills the places of a list past its count
 const E: TestOperation = TestOperation::Erase;
 
@@ -28,13 +47,34 @@ pub fn elements() -> [Element; 7]
     ensures test_mlt1 { λ r. ⌜ map meant r ≡ mlt1 ⌝ }
 {
     [
-        Element::Up(Few { items: [W1, E, E, E, E, E, E, E], count: 1 }),
-        Element::Up(Few { items: [W0, C0_HIT, W1, E, E, E, E, E], count: 3 }),
-        Element::Up(Few { items: [R1, W0, E, E, E, E, E, E], count: 2 }),
-        Element::Columns(Few { items: [C1_NONE; 8], count: 1 }),
-        Element::Down(Few { items: [W1, C1_HIT, W0, E, E, E, E, E], count: 3 }),
-        Element::Down(Few { items: [R0, W1, E, E, E, E, E, E], count: 2 }),
-        Element::Columns(Few { items: [C0_NONE; 8], count: 1 }),
+        Element::Up(Few {
+            items: [W1, E, E, E, E, E, E, E],
+            count: 1,
+        }),
+        Element::Up(Few {
+            items: [W0, C0_HIT, W1, E, E, E, E, E],
+            count: 3,
+        }),
+        Element::Up(Few {
+            items: [R1, W0, E, E, E, E, E, E],
+            count: 2,
+        }),
+        Element::Columns(Few {
+            items: [C1_NONE; 8],
+            count: 1,
+        }),
+        Element::Down(Few {
+            items: [W1, C1_HIT, W0, E, E, E, E, E],
+            count: 3,
+        }),
+        Element::Down(Few {
+            items: [R0, W1, E, E, E, E, E, E],
+            count: 2,
+        }),
+        Element::Columns(Few {
+            items: [C0_NONE; 8],
+            count: 1,
+        }),
     ]
 }
 
@@ -43,7 +83,11 @@ pub fn element(at: u8) -> Option<Element>
     ensures element_at_place { λ r. ⌜ mapped meant r ≡ nth mlt1 at ⌝ }
 {
     let test = elements();
-    if at < 7 { Some(test[at as usize]) } else { None }
+    if at < 7 {
+        Some(test[at as usize])
+    } else {
+        None
+    }
 }
 
 // How many operations a whole run does on an array of this size.

@@ -21,11 +21,11 @@ blank-at : (n : ℕ) (rs : List WordRecord) → n ≤ length rs → (k : ℕ) �
 blank-at n rs fits k =
     split (ltb k n)
     (λ e.
-       let front = map (λ (r : WordRecord). blankRecord) (take n rs) in
-       let count : length front ≡ n = length-map (take n rs) _ ∙ length-take-le n rs fits in
-       let l : k < length front = omega (arith, ltb-true k n e) in
-       let m : k < length (take n rs) = omega (arith, length-map (take n rs) (λ (r : WordRecord). blankRecord)) in
-       cond-true (ltb k n) _ _ e ∙ getD-append-left front (drop n rs) blankRecord k l ∙ getD-map _ (take n rs) k blankRecord blankRecord m)
+    let front = map (λ (r : WordRecord). blankRecord) (take n rs) in
+    let count : length front ≡ n = length-map (take n rs) _ ∙ length-take-le n rs fits in
+    let l : k < length front = omega (arith, ltb-true k n e) in
+    let m : k < length (take n rs) = omega (arith, length-map (take n rs) (λ (r : WordRecord). blankRecord)) in
+    cond-true (ltb k n) _ _ e ∙ getD-append-left front (drop n rs) blankRecord k l ∙ getD-map _ (take n rs) k blankRecord blankRecord m)
     (λ e. cond-false (ltb k n) _ _ e)
 
 storage-blank : (j : ℕ) → storageOf blankRecord j ≡ Good
@@ -44,13 +44,13 @@ pub build-blanked : (n w : ℕ) (rs : List WordRecord) → n ≤ length rs → b
 build-blanked n w rs fits =
     ap {B = Build} (λ f. record { words = n; width = w; storage = λ k. storageOf (f k); wrong = λ k. wrongOf (f k); stuck = λ k. f k .stuck }) (fun-ext (blank-at n rs fits))
     ∙ λ d.
-      record {
-        words = n;
-        width = w;
-        storage = λ k j. storage-blank j d;
-        wrong = λ k j h b. wrong-blank j h b d;
-        stuck = λ k. false
-      }
+    record {
+      words = n;
+      width = w;
+      storage = λ k j. storage-blank j d;
+      wrong = λ k j h b. wrong-blank j h b d;
+      stuck = λ k. false;
+    }
 
 pub state-blanked : (n w : ℕ) (rs : List WordRecord) → n ≤ length rs → stateFrom n w (blanked n rs) 0 ≡ cleared
 state-blanked n w rs fits =

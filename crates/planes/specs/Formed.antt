@@ -71,6 +71,6 @@ wellFormed p =
       steady = record {
         low = λ k j hk hj e. shows-low (p .width) (word k) j e;
         high = λ k j hk hj e. shows-high (p .width) (word k) j hj e;
-        clear = λ k hk e. and-right (word k .mark) (not (word k .stuck)) (ap not e)
-      }
+        clear = λ k hk e. and-right (word k .mark) (not (word k .stuck)) (ap not e);
+      };
     }

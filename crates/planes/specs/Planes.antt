@@ -21,7 +21,7 @@ buildFrom n w rs =
       width = w;
       storage = λ k. storageOf (recordAt n rs k);
       wrong = λ k. wrongOf (recordAt n rs k);
-      stuck = λ k. recordAt n rs k .stuck
+      stuck = λ k. recordAt n rs k .stuck;
     }
 
 abbrev pub stateFrom : ℕ → ℕ → List WordRecord → ℕ → State

@@ -38,7 +38,7 @@ blankRecord =
       wrong00 = 0;
       wrong01 = 0;
       wrong11 = 0;
-      wrong10 = 0
+      wrong10 = 0;
     }
 
 -- the record with its defects alone
@@ -55,5 +55,5 @@ defects r =
       wrong00 = r .wrong00;
       wrong01 = r .wrong01;
       wrong11 = r .wrong11;
-      wrong10 = r .wrong10
+      wrong10 = r .wrong10;
     }

@@ -37,21 +37,37 @@ impl PlaneArray {
         ensures later_records_stay { λ r. ⌜ Cases r (λ p. vec-items (p .records) ≡ blanked words (vec-items records)) (λ e. e .records ≡ records) ⌝ }
     {
         if words < 1 || words > 256 || width < 1 || width > 64 {
-            return Err(NotMade { records, fault: Fault::of_call(Reason::SizeOutsideLimits) });
+            return Err(NotMade {
+                records,
+                fault: Fault::of_call(Reason::SizeOutsideLimits),
+            });
         }
         if records.len() < words as usize {
-            return Err(NotMade { records, fault: Fault::of_call(Reason::BufferTooShort) });
+            return Err(NotMade {
+                records,
+                fault: Fault::of_call(Reason::BufferTooShort),
+            });
         }
         let mut records = records;
         blank_first(records.as_mut_slice(), words as usize);
-        Ok(PlaneArray { records, words, width, tally: 0 })
+        Ok(PlaneArray {
+            records,
+            words,
+            width,
+            tally: 0,
+        })
     }
 
     // Ends the array and hands the caller's records back.
     pub fn into_records(self) -> Vec<WordRecord>
         ensures records_as_they_are { λ r. ⌜ r ≡ self .records ⌝ }
     {
-        let PlaneArray { records, words: _, width: _, tally: _ } = self;
+        let PlaneArray {
+            records,
+            words: _,
+            width: _,
+            tally: _,
+        } = self;
         records
     }
 }

@@ -19,7 +19,11 @@ fn one_more(tally: u64) -> u64
     ensures next { λ r. ⌜ r ≡ oneMore tally ⌝ }
     ensures still_within { λ r. ⌜ r ≤ tallyCap ⌝ }
 {
-    if tally < TALLY_CAP { tally + 1 } else { TALLY_CAP }
+    if tally < TALLY_CAP {
+        tally + 1
+    } else {
+        TALLY_CAP
+    }
 }
 
 // Whether some record's word matches.
@@ -73,7 +77,12 @@ pub impl CamArray for PlaneArray as PlaneCam {
     fn compare(&mut self, pattern: u64, mask: u64) -> bool {
         self.tally = one_more(self.tally);
         let words = self.words as usize;
-        any_matches(&self.records.as_slice()[0..words], pattern, mask, self.width)
+        any_matches(
+            &self.records.as_slice()[0..words],
+            pattern,
+            mask,
+            self.width,
+        )
     }
 
     fn erase(&mut self, word: WordIndex) {

@@ -24,7 +24,12 @@ impl PlaneArray {
     }
 
     // Gives a cell a storage defect. An sa0 cell then holds 0, an sa1 cell 1.
-    pub fn plant_storage(&mut self, word: WordIndex, column: ColumnIndex, defect: StorageDefect) -> Result<(), Fault>
+    pub fn plant_storage(
+        &mut self,
+        word: WordIndex,
+        column: ColumnIndex,
+        defect: StorageDefect,
+    ) -> Result<(), Fault>
         ensures asks_place_then_storage { λ r. ⌜ Asks (ask (hasCell (buildOf (now (self .entry))) (word .number) (column .number)) 42 ∷ ask (isGood (buildOf (now (self .entry)) .storage (word .number) (column .number))) 43 ∷ []) r ⌝ }
         ensures only_this_defect_planted { λ r. ⌜ Cases r (λ _. buildOf (now (self .exit)) ≡ withStorage (word .number) (column .number) (storageWith defect) (buildOf (now (self .entry)))) (λ _. now (self .exit) ≡ now (self .entry)) ⌝ }
         ensures only_held_bit_settled { λ r. ⌜ Cases r (λ _. stateOf (now (self .exit)) ≡ settled (word .number) (column .number) (storageWith defect) (stateOf (now (self .entry)))) (λ _. now (self .exit) ≡ now (self .entry)) ⌝ }
@@ -43,7 +48,12 @@ impl PlaneArray {
     }
 
     // Puts a pair into a cell's wrong set.
-    pub fn plant_pair(&mut self, word: WordIndex, column: ColumnIndex, pair: Pair) -> Result<(), Fault>
+    pub fn plant_pair(
+        &mut self,
+        word: WordIndex,
+        column: ColumnIndex,
+        pair: Pair,
+    ) -> Result<(), Fault>
         ensures asks_place_then_pair { λ r. ⌜ Asks (ask (hasCell (buildOf (now (self .entry))) (word .number) (column .number)) 42 ∷ ask (not (buildOf (now (self .entry)) .wrong (word .number) (column .number) (pair .held) (pair .comparand))) 43 ∷ []) r ⌝ }
         ensures only_this_pair_planted { λ r. ⌜ Cases r (λ _. buildOf (now (self .exit)) ≡ withPair (word .number) (column .number) (pair .held) (pair .comparand) (buildOf (now (self .entry)))) (λ _. now (self .exit) ≡ now (self .entry)) ⌝ }
         ensures state_stays { λ r. ⌜ Cases r (λ _. stateOf (now (self .exit)) ≡ stateOf (now (self .entry))) (λ _. now (self .exit) ≡ now (self .entry)) ⌝ }

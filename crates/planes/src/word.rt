@@ -59,7 +59,8 @@ impl WordRecord {
         ensures mark_set_unless_stuck { λ _. ⌜ markOf (now (self .exit)) ≡ markAfterWrite (now (self .entry) .stuck) (markOf (now (self .entry))) ⌝ }
         ensures defects_stay { λ _. ⌜ defects (now (self .exit)) ≡ defects (now (self .entry)) ⌝ }
     {
-        let next = (pattern & (self.held | !self.norise)) | (self.held & self.nofall & !self.norise);
+        let next = (pattern & (self.held | !self.norise))
+            | (self.held & self.nofall & !self.norise);
         self.held = (self.held & mask) | (next & !mask);
         self.mark = true;
     }

@@ -12,5 +12,5 @@ pub returns-else-place-lt64 : need.returns-else-place-lt64
 returns-else-place-lt64 c =
     record {
       bit-at-place = le-ltb (c .args .place) 64 (omega arith)
-        ∙ sym (bit-past-word (c .args .number) (c .args .place) (search needs) (omega arith))
+          ∙ sym (bit-past-word (c .args .number) (c .args .place) (search needs) (omega arith));
     }

@@ -10,12 +10,12 @@ pub returns-in-Some : need.returns-in-Some
 returns-in-Some c =
     record {
       step-of-list = nth-found (onColumn (min (c .args .width) 64) (c .args .column .number)) (listed (c .args .comparisons .now)) (c .args .at) _ _
-        (c .in-Some .ensures tt .item-at-place) (ap Some (c .on-column .ensures .step-on-column))
+          (c .in-Some .ensures tt .item-at-place) (ap Some (c .on-column .ensures .step-on-column));
     }
 
 pub returns-in-None : need.returns-in-None
 returns-in-None c =
     record {
       step-of-list = nth-found (onColumn (min (c .args .width) 64) (c .args .column .number)) (listed (c .args .comparisons .now)) (c .args .at) _ _
-        (c .in-None .ensures tt .item-at-place) refl
+          (c .in-None .ensures tt .item-at-place) refl;
     }

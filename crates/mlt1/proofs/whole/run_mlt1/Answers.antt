@@ -21,11 +21,11 @@ returns g c =
     let formed = m .formed x in
     let k = c .operation-count-operations .result in
     let count : k ≡ 11 * B .words + 2 * B .width =
-      c .operation-count-operations .ensures .eleven-a-word-two-a-column
-      ∙ ap₂ (λ (n w : ℕ). 11 * n + 2 * w) (c .words .ensures .word-count) (c .width .ensures .bits-of-word) in
+    c .operation-count-operations .ensures .eleven-a-word-two-a-column
+    ∙ ap₂ (λ (n w : ℕ). 11 * n + 2 * w) (c .words .ensures .word-count) (c .width .ensures .bits-of-word) in
     let steps = length-is (B .words) (B .width) in
     let run = went-whole B _ k _ _ _ _ (c .advance-by .ensures .next-steps-done) (c .start-run .ensures .whole-schedule-left (B .words) (B .width))
-          (c .start-run .ensures .no-miss-yet) (c .advance-by .ensures .most-or-all-left) (omega (arith, count, steps)) (omega (arith, count, formed .few-words, formed .few-bits)) in
+    (c .start-run .ensures .no-miss-yet) (c .advance-by .ensures .most-or-all-left) (omega (arith, count, steps)) (omega (arith, count, formed .few-words, formed .few-bits)) in
     let told = c .misses .ensures .misses-counted ∙ run .0 in
     let both = separates B S (formed .some-bits) (formed .steady) in
     record {
@@ -35,5 +35,5 @@ returns g c =
       build-stays = c .advance-by .ensures .build-stays;
       operations-tallied = c .advance-by .ensures .tally-rises-by-answer ∙ ap (λ (n : ℕ). min (S .tally + n) tallyCap) (run .2 ∙ steps);
       separates-every-array = separates;
-      no-word-stands-in = no-stand-in Bool
+      no-word-stands-in = no-stand-in Bool;
     }

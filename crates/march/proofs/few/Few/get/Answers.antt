@@ -24,5 +24,5 @@ returns-else-at-self g c =
     let xs = c .args .self .now .items in
     let n : ℕ = min (c .args .self .now .count) 8 in
     let l : length (take n xs) ≤ c .args .at =
-      ⊎-elim (λ b. omega (arith, length-take n xs, b .1)) (λ b. omega (arith, length-take n xs, b)) (c .else-at-self .either) in
+    ⊎-elim (λ b. omega (arith, length-take n xs, b .1)) (λ b. omega (arith, length-take n xs, b)) (c .else-at-self .either) in
     record { item-at-place = sym (nth-past (take n xs) (c .args .at) l) }

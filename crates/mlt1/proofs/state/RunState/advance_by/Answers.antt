@@ -8,9 +8,10 @@ loop-done-holds g c = (refl, went-none _ (c .args .self .now) _)
 
 pub loop-done-again : need.loop-done-again
 loop-done-again g c =
-    let told = c .if-not-advance .ensures tt in
-    (told .build-stays ∙ c .loop-done .inv .0
-    , went-then _ _ (c .loop-done .done) 1 _ _ _ _ _ _ (c .loop-done .inv .0) (c .loop-done .inv .1) (told .next-step-done))
+    let told = c .if-not-advance .ensures tt in (
+      told .build-stays ∙ c .loop-done .inv .0,
+      went-then _ _ (c .loop-done .done) 1 _ _ _ _ _ _ (c .loop-done .inv .0) (c .loop-done .inv .1) (told .next-step-done),
+    )
 
 pub returns-then-not-advance : need.returns-then-not-advance
 returns-then-not-advance g c =
@@ -20,7 +21,7 @@ returns-then-not-advance g c =
       most-or-all-left = went-all _ _ (c .loop-done .done) (c .args .most) _ _ _ _ (c .loop-done .inv .0) (c .loop-done .inv .1) (omega arith) (told .unless-at-end);
       tally-rises-by-answer = went-tally _ _ _ _ _ _ done (g .C·CamArray .formed (c .args .array .now) .tally-within);
       next-steps-done = done;
-      build-stays = told .build-stays ∙ c .loop-done .inv .0
+      build-stays = told .build-stays ∙ c .loop-done .inv .0;
     }
 
 pub returns : need.returns
@@ -30,5 +31,5 @@ returns g c =
       most-or-all-left = omega (arith, done .within);
       tally-rises-by-answer = went-tally _ _ _ _ _ _ done (g .C·CamArray .formed (c .args .array .now) .tally-within);
       next-steps-done = done;
-      build-stays = c .loop-done .inv .0
+      build-stays = c .loop-done .inv .0;
     }

@@ -17,11 +17,11 @@ returns c =
     let w = c .args .width in
     let fits : n ≤ length (vec-items v) = omega (arith, v .ok .0) in
     let ends : vec-items (refilled v (c .blank-first .last .records)) ≡ blanked n (vec-items v) =
-      refilled-is v (c .blank-first .last .records) (omega arith)
-      ∙ c .blank-first .ensures .first-blank-others-stay ∙ ap (blanked n) (c .as-mut-slice .ensures .value) in
+    refilled-is v (c .blank-first .last .records) (omega arith)
+    ∙ c .blank-first .ensures .first-blank-others-stay ∙ ap (blanked n) (c .as-mut-slice .ensures .value) in
     record {
       asks-size-then-records = search needs;
       made-flawless = ap (buildFrom n w) ends ∙ build-blanked n w (vec-items v) fits;
       made-cleared = ap (λ rs. stateFrom n w rs 0) ends ∙ state-blanked n w (vec-items v) fits;
-      later-records-stay = ends
+      later-records-stay = ends;
     }

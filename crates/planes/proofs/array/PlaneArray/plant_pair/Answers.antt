@@ -30,8 +30,8 @@ returns c =
     let done = c .plant-pair .ensures in
     record {
       asks-place-then-pair = both-yes _ _ 42 43 cell
-        (ap (λ y. not (wrongOf y j h b)) (sym (record-read n rs a _ fits inside (c .index .ensures))) ∙ ap not (sym (c .if-is-wrong .ensures tt .pair-in-wrong-set)));
+          (ap (λ y. not (wrongOf y j h b)) (sym (record-read n rs a _ fits inside (c .index .ensures))) ∙ ap not (sym (c .if-is-wrong .ensures tt .pair-in-wrong-set)));
       only-this-pair-planted = build-with-pair n rs a _ _ fits inside read (s .width) j h b
-        (done .wrong-set-of-column) (done .storage-stays) (done .stuck-stays);
-      state-stays = state-stays n rs a _ _ fits inside read (s .width) (s .tally) (done .held-bits-stay (s .width)) (done .mark-stays)
+          (done .wrong-set-of-column) (done .storage-stays) (done .stuck-stays);
+      state-stays = state-stays n rs a _ _ fits inside read (s .width) (s .tally) (done .held-bits-stay (s .width)) (done .mark-stays);
     }

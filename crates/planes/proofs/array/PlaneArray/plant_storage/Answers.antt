@@ -28,9 +28,9 @@ returns-in-Good c =
     let done = c .plant-storage .ensures in
     record {
       asks-place-then-storage = both-yes _ _ 42 43 cell
-        (ap (λ y. isGood (storageOf y j)) (sym (record-read n rs a _ fits inside (c .index .ensures))) ∙ ap isGood (sym (c .in-Good .ensures tt .storage-of-column)));
+          (ap (λ y. isGood (storageOf y j)) (sym (record-read n rs a _ fits inside (c .index .ensures))) ∙ ap isGood (sym (c .in-Good .ensures tt .storage-of-column)));
       only-this-defect-planted = build-with-storage n rs a _ _ fits inside read (s .width) j (storageWith (c .args .defect))
-        (done .storage-of-column) (done .wrong-sets-stay) (done .stuck-stays);
+          (done .storage-of-column) (done .wrong-sets-stay) (done .stuck-stays);
       only-held-bit-settled = state-settled n rs a _ _ fits inside read (s .width) (s .tally) j (storageWith (c .args .defect))
-        (λ i. done .held-bits (s .width) i (ltb-true j (s .width) (both .1)) (s .«few_bits»)) (done .mark-stays)
+          (λ i. done .held-bits (s .width) i (ltb-true j (s .width) (both .1)) (s .«few_bits»)) (done .mark-stays);
     }

@@ -21,7 +21,7 @@ returns c =
     let done = c .stick-mark .ensures in
     record {
       asks-place-then-mark = both-yes _ _ 42 43 (lt-ltb a n inside)
-        (ap (λ y. not (y .stuck)) (sym (record-read n rs a _ fits inside (c .index .ensures))) ∙ ap not (c .if-index .left));
+          (ap (λ y. not (y .stuck)) (sym (record-read n rs a _ fits inside (c .index .ensures))) ∙ ap not (c .if-index .left));
       only-this-mark-planted = build-with-stuck-mark n rs a _ _ fits inside read (s .width) (done .stuck) (done .storage-stays) (done .wrong-sets-stay);
-      only-this-mark-cleared = state-unmarked n rs a _ _ fits inside read (s .width) (s .tally) (done .mark-clear) (done .held-bits-stay (s .width))
+      only-this-mark-cleared = state-unmarked n rs a _ _ fits inside read (s .width) (s .tally) (done .mark-clear) (done .held-bits-stay (s .width));
     }

@@ -19,8 +19,8 @@ returns c =
     let fits : n ≤ length rs = omega (arith, s .records .ok .0) in
     record {
       some-word-matches = c .any-matches .ensures .some-word
-        ∙ ap (λ xs. anyBelow (length (take (n - 0) xs)) (matchesIn w p m (take (n - 0) xs))) (c .as-slice .ensures .value)
-        ∙ some-match n (n - 0) w p m rs (omega arith) fits;
+          ∙ ap (λ xs. anyBelow (length (take (n - 0) xs)) (matchesIn w p m (take (n - 0) xs))) (c .as-slice .ensures .value)
+          ∙ some-match n (n - 0) w p m rs (omega arith) fits;
       only-counted = ap (stateFrom n w rs) (c .one-more-self .ensures .next);
-      build-stays = refl
+      build-stays = refl;
     }

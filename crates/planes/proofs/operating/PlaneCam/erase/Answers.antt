@@ -18,18 +18,19 @@ returns c =
     let fits : n ≤ length rs = omega (arith, s .records .ok .0) in
     let counted = c .one-more-self .ensures .next in
     elim (c .if-word-self .came) [
-      then-word-self y ↦
-        let inside : a < n = y .if-word-self .taken in
-        let read = y .index-mut .ensures .value in
-        let e = ap (λ s. s .1 .0) (y .self-is) in
-        record {
-          state-after-erase = ap₂ (λ v t. stateFrom n w (vec-items v) t) e counted
-            ∙ erase-inside n rs a _ _ fits inside read w (s .tally) (λ j. refl) refl;
-          build-stays = ap (λ v. buildFrom n w (vec-items v)) e ∙ build-same n rs a _ _ fits inside read w refl
-        }
-    | else-word-self y ↦
-        let e = ap (λ s. s .1 .0) (y .self-is) in
-        record {
-          state-after-erase = ap₂ (λ v t. stateFrom n w (vec-items v) t) e counted ∙ erase-outside n w rs (s .tally) a (y .if-word-self .left);
-          build-stays = ap (λ v. buildFrom n w (vec-items v)) e
-        } ]
+      | then-word-self y ↦
+          let inside : a < n = y .if-word-self .taken in
+          let read = y .index-mut .ensures .value in
+          let e = ap (λ s. s .1 .0) (y .self-is) in
+          record {
+            state-after-erase = ap₂ (λ v t. stateFrom n w (vec-items v) t) e counted
+                ∙ erase-inside n rs a _ _ fits inside read w (s .tally) (λ j. refl) refl;
+            build-stays = ap (λ v. buildFrom n w (vec-items v)) e ∙ build-same n rs a _ _ fits inside read w refl;
+          }
+      | else-word-self y ↦
+          let e = ap (λ s. s .1 .0) (y .self-is) in
+          record {
+            state-after-erase = ap₂ (λ v t. stateFrom n w (vec-items v) t) e counted ∙ erase-outside n w rs (s .tally) a (y .if-word-self .left);
+            build-stays = ap (λ v. buildFrom n w (vec-items v)) e;
+          }
+    ]

@@ -16,6 +16,6 @@ returns c =
     let mask-fits : c .args .mask < 2 ^ 64 = search needs in
     record {
       word-matches = ap (λ t. markOf r && t)
-        (none-set (c .args .width) _ _ _ (c .pre .few-bits) (c .low-ones .ensures .value)
-         (λ j l. let j64 : j < 64 = omega arith in let b = lt-ltb j (c .args .width) l in let wrong = c .reversed .ensures .columns-with-wrong-pair j j64 in simp (wrong, bits, b) (grind arith)))
+          (none-set (c .args .width) _ _ _ (c .pre .few-bits) (c .low-ones .ensures .value)
+          (λ j l. let j64 : j < 64 = omega arith in let b = lt-ltb j (c .args .width) l in let wrong = c .reversed .ensures .columns-with-wrong-pair j j64 in simp (wrong, bits, b) (grind arith)));
     }

@@ -28,7 +28,7 @@ returns-in-Sa1 c =
       stored-bit = let same = eq-eqb j j refl in simp (bits, same) (grind arith);
       wrong-sets-stay = refl;
       mark-stays = refl;
-      stuck-stays = refl
+      stuck-stays = refl;
     }
 
 pub returns-in-NoRise : need.returns-in-NoRise
@@ -42,7 +42,7 @@ returns-in-NoRise c =
       stored-bit = grind arith;
       wrong-sets-stay = refl;
       mark-stays = refl;
-      stuck-stays = refl
+      stuck-stays = refl;
     }
 
 pub returns-in-NoFall : need.returns-in-NoFall
@@ -56,7 +56,7 @@ returns-in-NoFall c =
       stored-bit = grind arith;
       wrong-sets-stay = refl;
       mark-stays = refl;
-      stuck-stays = refl
+      stuck-stays = refl;
     }
 
 pub returns-in-Sa0 : need.returns-in-Sa0
@@ -68,10 +68,10 @@ returns-in-Sa0 c =
     record {
       storage-of-column = λ i. split (eqb i j) (λ e. let good = well r j i (c .pre .stores-well) e in simp (bits, e) (grind arith)) (λ e. simp (bits, e) (grind arith));
       held-bits = λ w i l h. split (ltb i w)
-        (λ t. let i64 : i < 64 = omega (arith, ltb-true i w t) in split (eqb i j) (λ e. simp (bits, e, t) (grind arith)) (λ e. simp (bits, e, t) (grind arith)))
-        (λ t. simp t (grind arith));
+          (λ t. let i64 : i < 64 = omega (arith, ltb-true i w t) in split (eqb i j) (λ e. simp (bits, e, t) (grind arith)) (λ e. simp (bits, e, t) (grind arith)))
+          (λ t. simp t (grind arith));
       stored-bit = let same = eq-eqb j j refl in simp (bits, same) (grind arith);
       wrong-sets-stay = refl;
       mark-stays = refl;
-      stuck-stays = refl
+      stuck-stays = refl;
     }

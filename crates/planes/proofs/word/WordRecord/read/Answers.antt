@@ -13,5 +13,5 @@ returns c =
     let sa0-fits : r .sa0 < 2 ^ 64 = search needs in
     record {
       held-bits = value-low (c .args .width) _ _ _ (c .pre .few-bits) (c .low-ones .ensures .value)
-        (λ j l. let j64 : j < 64 = omega arith in let b = lt-ltb j (c .args .width) l in simp (bits, b))
+          (λ j l. let j64 : j < 64 = omega arith in let b = lt-ltb j (c .args .width) l in simp (bits, b));
     }

@@ -12,9 +12,9 @@ pub returns-then-self-eq0 : need.returns-then-self-eq0
 returns-then-self-eq0 c =
     record {
       columns-with-wrong-pair = λ j l.
-        let none = simp bits at (ap (λ (n : ℕ). bit n j) (c .if-self-eq0 .taken)) in
-        let zero = bit-zero j in
-        grind arith
+          let none = simp bits at (ap (λ (n : ℕ). bit n j) (c .if-self-eq0 .taken)) in
+          let zero = bit-zero j in
+          grind arith;
     }
 
 pub returns : need.returns

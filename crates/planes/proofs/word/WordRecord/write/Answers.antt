@@ -15,8 +15,8 @@ returns c =
     let mask-fits : c .args .mask < 2 ^ 64 = search needs in
     record {
       cells = λ w j h. split (ltb j w)
-        (λ e. let j64 : j < 64 = omega (arith, ltb-true j w e) in simp (bits, e) (grind arith))
-        (λ e. simp e);
+          (λ e. let j64 : j < 64 = omega (arith, ltb-true j w e) in simp (bits, e) (grind arith))
+          (λ e. simp e);
       mark-set-unless-stuck = grind arith;
-      defects-stay = refl
+      defects-stay = refl;
     }
