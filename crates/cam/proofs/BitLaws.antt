@@ -10,7 +10,7 @@ use lib.Dec.{eqb}
 use lib.Pow.{ones-split, high, ones-lt, pow-lt, pow-mono}
 use lib.Bits.{bitAnd, bitOr, bitXor, differ, and-step, or-step, xor-step, and-shr, or-shr, xor-shr, xor-add-and, and-mask}
 use Rattle.std.proofs.shelf.Bits.{one-shl, pow-pos, pow-add, shl-shr, shr-shr}
-use Rattle.std.proofs.shelf.Tests.{eq-eqb, ne-eqb, eqb-true, eqb-false, cases-lt, cases-eq, cases-bool}
+use Rattle.std.proofs.shelf.Tests.{eq-eqb, ne-eqb, eqb-true, eqb-false, cases-lt, cases-eq, cases-bool, or-right}
 use Rattle.cam.specs.Bits.{bit}
 
 -- exclusive or
@@ -175,6 +175,43 @@ bit-test n j = ap (λ (x : ℕ). eqb x 1) (and-mask (n / 2 ^ j) 1)
 pub bit-past-word : (n j : ℕ) → n < 2 ^ 64 → 64 ≤ j → bit n j ≡ false
 bit-past-word n j h l = bit-past n j (lt-of-lt-of-le h (pow-mono l))
 
+pub bit-lowest : (n : ℕ) → bit n 0 ≡ eqb (n % 2) 1
+unfolding bit
+bit-lowest n = ap (λ (x : ℕ). eqb (x % 2) 1) (div-one n)
+
 -- `simp bits` turns bit j of an expression of &, |, ^, ! and `1 << i` on u64s into tests of bits. It wants in scope
 -- `x < 2 ^ 64` and `j < 64` for each `!x`, and `i < 64` for each `1 << i`.
 pub ruleset bits = (bit-and, bit-or, bit-xor, bit-not64, bit-shl-one)
+
+-- A number that is built bit by bit: its bits below i are f's, and it has none above.
+abbrev pub Built : (ℕ → Bool) → ℕ → ℕ → Type 0
+Built f n i = ((k : ℕ) → k < i → bit n k ≡ f k) × ((k : ℕ) → i ≤ k → bit n k ≡ false)
+
+pub built-none : (f : ℕ → Bool) → Built f 0 0
+built-none f = (λ k l. absurd (omega arith), λ k l. bit-zero k)
+
+or-bit : (n i k : ℕ) → i < 64 → bit (bitOr n ((1 * 2 ^ i) % 18446744073709551616)) k ≡ (bit n k || eqb k i)
+or-bit n i k h = bit-or n _ k ∙ ap (λ b. bit n k || b) (bit-shl-one i k h)
+
+or-other : (b t : Bool) → t ≡ false → (b || t) ≡ b
+or-other true t e = refl
+or-other false t e = e
+
+pub built-set : (f : ℕ → Bool) (n i : ℕ) → i < 64 → f i ≡ true → Built f n i
+    → Built f (bitOr n ((1 * 2 ^ i) % 18446744073709551616)) (i + 1)
+built-set f n i h e b = (
+  λ k l. ⊎-elim
+      (λ (q : k ≡ i). or-bit n i k h ∙ ap (λ t. bit n k || t) (eq-eqb k i q) ∙ or-right (bit n k) true refl ∙ sym e ∙ ap f (sym q))
+      (λ (q : k ≡ i → ⊥). or-bit n i k h ∙ or-other (bit n k) _ (ne-eqb k i q) ∙ b .0 k (omega arith))
+      (cases-eq k i),
+  λ k l. or-bit n i k h ∙ or-other (bit n k) _ (ne-eqb k i (λ q. omega arith)) ∙ b .1 k (omega arith),
+)
+
+pub built-left : (f : ℕ → Bool) (n i : ℕ) → f i ≡ false → Built f n i → Built f n (i + 1)
+built-left f n i e b = (
+  λ k l. ⊎-elim
+      (λ (q : k ≡ i). ap (bit n) q ∙ b .1 i (omega arith) ∙ sym e ∙ ap f (sym q))
+      (λ (q : k ≡ i → ⊥). b .0 k (omega arith))
+      (cases-eq k i),
+  λ k l. b .1 k (omega arith),
+)

@@ -1,7 +1,9 @@
 pub mod BitLaws
 pub mod Below
+pub mod Machine
 pub mod Values
 pub mod Steadiness
 pub mod Operating
 pub mod Asking
 pub mod Patterns
+pub mod Writes

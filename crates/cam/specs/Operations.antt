@@ -1,10 +1,11 @@
 -- The four operations as values, what they answer, and lists of them.
-use mathlib.Core.List.{List, [], _∷_}
+use mathlib.Core.List.{List}
 use Prim.Native.Nat.{ℕ}
 use Rattle.cam.specs.declared.operation.Operation.{Operation}
 use Rattle.cam.specs.declared.operation.Operation.the-variants.{Write, Read, Compare, Erase}
 use Rattle.cam.specs.declared.operation.Answer.{Answer}
 use Rattle.cam.specs.declared.operation.Answer.the-variants.{Nothing, Bits, Hit}
+use Rattle.cam.specs.Machine.{afterOf}
 use Rattle.cam.specs.Model.{Build, State, written, erased, counted, readWord, hit, Steady}
 
 -- the state after an operation
@@ -29,8 +30,7 @@ answerNumber (Hit b) = 2
 
 -- the state after each operation of a list in turn
 abbrev pub afterAll : Build → List Operation → State → State
-afterAll B [] S = S
-afterAll B (o ∷ os) S = afterAll B os (operated B o S)
+afterAll B = afterOf (operated B)
 
 -- no list of operations moves an sa0 cell, an sa1 cell or a stuck mark
 abbrev pub Steadiness-stays : Type 0

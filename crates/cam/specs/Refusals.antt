@@ -6,7 +6,7 @@ use Prim.Native.Nat.{ℕ}
 use Rattle.std.specs.declared.result.Result.{Result}
 use Rattle.std.specs.declared.result.Result.the-variants.{Ok, Err}
 use Rattle.cam.specs.declared.fault.Reason.{Reason}
-use Rattle.cam.specs.declared.fault.Reason.the-variants.{SizeOutsideLimits, OutsideArray, DefectRepeated, BufferTooShort}
+use Rattle.cam.specs.declared.fault.Reason.the-variants.{SizeOutsideLimits, OutsideArray, DefectRepeated, RunInHand, NoSuchWord, PatternTooWide, LimitPassed, TicketDoesNotFit, RunNotAtEnd, BufferTooShort}
 use Rattle.cam.specs.declared.fault.Layer.{Layer}
 use Rattle.cam.specs.declared.fault.Layer.the-variants.{Call, Words, Forms, Meaning}
 use Rattle.cam.specs.declared.fault.Fault.{Fault}
@@ -15,6 +15,12 @@ abbrev pub reasonNumber : Reason → ℕ
 reasonNumber SizeOutsideLimits = 41
 reasonNumber OutsideArray = 42
 reasonNumber DefectRepeated = 43
+reasonNumber RunInHand = 51
+reasonNumber NoSuchWord = 52
+reasonNumber PatternTooWide = 53
+reasonNumber LimitPassed = 54
+reasonNumber TicketDoesNotFit = 55
+reasonNumber RunNotAtEnd = 56
 reasonNumber BufferTooShort = 57
 
 abbrev pub layerNumber : Layer → ℕ

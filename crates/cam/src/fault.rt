@@ -11,6 +11,18 @@ pub enum Reason {
     OutsideArray = 42,
     // a second storage defect of a cell, or the same defect again
     DefectRepeated = 43,
+    // a run is in hand
+    RunInHand = 51,
+    // a word that the array does not have
+    NoSuchWord = 52,
+    // a pattern or a mask with bits past the width
+    PatternTooWide = 53,
+    // the tally would pass the bench's limit, or the starts would
+    LimitPassed = 54,
+    // no run is in hand, or the ticket is not that of the run
+    TicketDoesNotFit = 55,
+    // the run is not at its end
+    RunNotAtEnd = 56,
     // a buffer that is too short
     BufferTooShort = 57,
 }

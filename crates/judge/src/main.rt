@@ -1,23 +1,24 @@
-// Judges an array. So far it makes one array of its own with two defects, operates it by hand, runs MLT-1 on it, and
-// says what it did and found.
-use cam::array::CamArray;
+// Judges an array and prints what it found. So far the array is one of its own, with two defects.
+use bench::judging::Judged;
+use bench::judging::Judgement;
+use bench::judging::NotJudged;
+use bench::judging::judge_array;
 use cam::defect::Pair;
 use cam::defect::StorageDefect;
 use cam::fault::Fault;
 use cam::index::ColumnIndex;
 use cam::index::WordIndex;
-use cam::operation::Answer;
-use cam::operation::Operation;
-use cam::operation::operate;
-use mlt1::table::operation_count;
-use mlt1::whole::run_mlt1;
 use planes::array::NotMade;
 use planes::array::PlaneArray;
 use planes::operating::PlaneCam;
 use planes::word::WordRecord;
+use report::lines::array_line;
+use report::lines::cell_line;
+use report::lines::chart_line;
+use report::lines::run_line;
 use std::alloc::Global;
 use std::error::AnyError;
-use std::io;
+use std::io::Write;
 
 const WORDS: u16 = 2;
 
@@ -61,111 +62,76 @@ fn example_array(heap: Global) -> Result<PlaneArray, AnyError> {
     }
 }
 
-// Operations whose answers show both defects, with what the reader should look for.
-fn example_operations() -> [(Operation, &'static str); 9] {
-    let first = WordIndex { number: 0 };
-    let second = WordIndex { number: 1 };
-    [
-        (
-            Operation::Write {
-                word: first,
-                pattern: 0b000,
-                mask: 0,
-            },
-            "word 0 is marked and holds 000",
-        ),
-        (
-            Operation::Write {
-                word: second,
-                pattern: 0b111,
-                mask: 0,
-            },
-            "word 1 is marked; its cell 2 stays 0",
-        ),
-        (
-            Operation::Read { word: second },
-            "111 was written: cell (1, 2) is stuck at 0",
-        ),
-        (
-            Operation::Compare {
-                pattern: 0b111,
-                mask: 0b000,
-            },
-            "no word holds 111, though one was written so",
-        ),
-        (
-            Operation::Compare {
-                pattern: 0b111,
-                mask: 0b100,
-            },
-            "with column 2 blocked word 1 matches",
-        ),
-        (
-            Operation::Erase { word: second },
-            "word 1 loses its mark and keeps its bits",
-        ),
-        (
-            Operation::Compare {
-                pattern: 0b111,
-                mask: 0b100,
-            },
-            "a word without a mark does not match",
-        ),
-        (
-            Operation::Compare {
-                pattern: 0b001,
-                mask: 0b000,
-            },
-            "word 0 holds 000: cell (0, 0) answers 01 wrongly",
-        ),
-        (
-            Operation::Read { word: first },
-            "what a cell holds is not touched by a wrong answer",
-        ),
-    ]
+// Prints a line that was made in a buffer.
+fn print_line(
+    rt: &LibcRuntime,
+    buffer: &[u8; 64],
+    made: Result<usize, Fault>,
+) -> Result<(), AnyError> {
+    match made {
+        Ok(length) => {
+            let end = length.min(64);
+            rt.stdout().write_all(&buffer[0..end])?;
+            Ok(())
+        }
+        Err(fault) => Err(refused(rt.alloc(), fault)),
+    }
 }
 
-// One operation and its answer in plain words; patterns and masks with column 2 first.
-fn report(rt: &LibcRuntime, operation: Operation, answer: Answer, remark: &str) -> io::Result<()> {
-    match operation {
-        Operation::Write {
-            word,
-            pattern,
-            mask,
-        } => print!(
-            rt,
-            "write {:03b} to word {}, mask {:03b}",
-            pattern, word.number, mask
-        )?,
-        Operation::Read { word } => print!(rt, "read word {}", word.number)?,
-        Operation::Compare { pattern, mask } => print!(
-            rt,
-            "compare {:03b}, mask {:03b}",
-            pattern, mask
-        )?,
-        Operation::Erase { word } => print!(rt, "erase word {}", word.number)?,
+fn print_totals(rt: &LibcRuntime, judgement: Judgement) -> Result<(), AnyError> {
+    let mut buffer = [0u8; 64];
+    let made = array_line(&mut buffer, judgement.words, judgement.width);
+    print_line(rt, &buffer, made)?;
+    let made = run_line(&mut buffer, judgement.operations, judgement.finding.count());
+    print_line(rt, &buffer, made)?;
+    let made = chart_line(&mut buffer, judgement.charting, judgement.blemished);
+    print_line(rt, &buffer, made)
+}
+
+fn print_cell(
+    rt: &LibcRuntime,
+    word: WordIndex,
+    column: ColumnIndex,
+    byte: u8,
+) -> Result<(), AnyError> {
+    let mut buffer = [0u8; 64];
+    let made = cell_line(&mut buffer, word, column, byte);
+    print_line(rt, &buffer, made)
+}
+
+fn print_cells(rt: &LibcRuntime, judgement: Judgement, chart: &[u8]) -> Result<(), AnyError> {
+    for word in 0..judgement.words {
+        for column in 0..judgement.width {
+            let place = word as usize * judgement.width as usize + column as usize;
+            if let Some(byte) = chart.get(place) {
+                if *byte > 0 {
+                    print_cell(
+                        rt,
+                        WordIndex { number: word },
+                        ColumnIndex { number: column },
+                        *byte,
+                    )?;
+                }
+            }
+        }
     }
-    match answer {
-        Answer::Nothing => println!(rt, "; {remark}"),
-        Answer::Bits(held) => println!(rt, ": {held:03b}; {remark}"),
-        Answer::Hit(true) => println!(rt, ": hit; {remark}"),
-        Answer::Hit(false) => println!(rt, ": no hit; {remark}"),
-    }
+    Ok(())
 }
 
 fn judge_example(rt: &LibcRuntime) -> Result<(), AnyError> {
-    let mut array = example_array(rt.alloc())?;
-    println!(rt, "array {WORDS} {WIDTH}")?;
-    for (operation, remark) in example_operations() {
-        let answer = operate(&mut array, operation);
-        report(rt, operation, answer, remark)?;
-    }
-    println!(rt, "operations {}", array.tally())?;
-    let operations = operation_count(array.words(), array.width());
-    let misses = run_mlt1(&mut array);
-    let finding = if misses == 0 { "sound" } else { "faulty" };
-    println!(rt, "run {operations} misses {misses} {finding}")?;
-    Ok(())
+    let array = example_array(rt.alloc())?;
+    let mut chart = vec![in rt.alloc(); 0u8; 6]?;
+    let judgement = match judge_array(array, chart.as_mut_slice()) {
+        Ok(
+            Judged {
+                array: _,
+                judgement,
+            },
+        ) => judgement,
+        Err(NotJudged { array: _, fault }) => return Err(refused(rt.alloc(), fault)),
+    };
+    print_totals(rt, judgement)?;
+    print_cells(rt, judgement, chart.as_slice())
 }
 
 fn main(rt: LibcRuntime) -> Result<(), AnyError> {

@@ -9,7 +9,7 @@ use Rattle.march.specs.declared.step.Step.{Step}
 use Rattle.std.proofs.shelf.Lists.{length-take}
 use Rattle.march.specs.declared.element.Element.{Element as ElementRecord}
 use Rattle.march.specs.declared.element.Element.the-variants.{Up, Down, Columns}
-use Rattle.march.specs.Machine.{upward}
+use Rattle.cam.specs.Machine.{upward}
 use Rattle.march.specs.Tests.{Element, up, down, columns, visits, visit, stepsOf, schedule, meant}
 
 pub upward-length : {X : Type 0} (c n : ℕ) (f : ℕ → List X) → ((k : ℕ) → length (f k) ≡ c) → length (upward n f) ≡ c * n

@@ -1,5 +1,4 @@
 pub mod Lists
-pub mod Machine
 pub mod Masking
 pub mod Lengths
 pub mod Sweeps

@@ -11,8 +11,8 @@ use Rattle.cam.proofs.Operating.{tally-rises}
 use Rattle.march.specs.declared.step.Step.{Step}
 use Rattle.march.specs.Steps.{missing}
 use Rattle.march.specs.Tests.{stepped, missed, after, misses}
-use Rattle.march.proofs.Machine as R
-pub use Rattle.march.proofs.Machine.{sweep}
+use Rattle.cam.proofs.Machine as R
+pub use Rattle.cam.proofs.Machine.{sweep}
 
 pub after-++ : (B : Build) (xs ys : List Step) (S : State) → after B (xs ++ ys) S ≡ after B ys (after B xs S)
 after-++ B = R.after-++ (stepped B) (missed B)

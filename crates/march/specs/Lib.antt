@@ -1,5 +1,4 @@
 pub mod Lists
-pub mod Machine
 pub mod Steps
 pub mod Tests
 pub mod Masking

@@ -19,7 +19,7 @@ use Rattle.march.specs.declared.element.TestOperation.the-variants.{Write, Rea
 use Rattle.march.specs.declared.element.Element.{Element as ElementRecord}
 use Rattle.march.specs.declared.element.Element.the-variants.{Up, Down, Columns}
 use Rattle.march.specs.Lists.{listed}
-use Rattle.march.specs.Machine.{afterOf, missesOf, upward}
+use Rattle.cam.specs.Machine.{afterOf, missesOf, upward}
 use Rattle.march.specs.Steps.{missing}
 
 abbrev pub word : ℕ → WordIndex

@@ -15,10 +15,11 @@ use Rattle.cam.specs.Defects.{Sound}
 use Rattle.cam.specs.Patterns.{equalBits, allBut}
 use Rattle.cam.proofs.Below.{split, none-below, any-none, some-below, all-true, each-below}
 use Rattle.cam.proofs.BitLaws.{bit-zero}
-use Rattle.cam.proofs.Patterns.{bit-but-here, bit-but-other, bit-equal, value-equal, equal-value}
+use Rattle.cam.proofs.Writes.{wr, wr-here, wr-other, wr-mark-here, wr-mark-other}
+use Rattle.cam.proofs.Patterns.{bit-but-here, bit-but-other, bit-equal, value-equal, equal-value, agrees-at}
 use Rattle.march.specs.declared.step.Step.{Step}
 use Rattle.march.specs.declared.element.TestOperation.the-variants.{Write, Read, Compare}
-use Rattle.march.specs.Machine.{upward}
+use Rattle.cam.specs.Machine.{upward}
 use Rattle.march.specs.Tests.{atWord, onColumn, after, misses}
 use Rattle.march.proofs.Masking.{all-fails, no-stand-in}
 use Rattle.march.proofs.Sweeps.{sweep, kept, gather, passes, first-passes, then-passes, both-pass}
@@ -73,9 +74,6 @@ module _ (w : Bool → Bool → Bool) (h c : Bool) where
   equal-needs d a =
       split (w h c) (λ e. absurd (both-ways (agrees w h c) (cond-true (w h c) (not (Bool·beq h c)) (Bool·beq h c) e ∙ ap not d) a)) (λ e. e)
 
-pub agrees-at : (w : Bool → Bool → Bool) (h b x y : Bool) → h ≡ x → b ≡ y → agrees w h b ≡ agrees w x y
-agrees-at w h b x y p q = ap (λ t. agrees w t b) p ∙ ap (agrees w x) q
-
 beq-refl : (b : Bool) → Bool·beq b b ≡ true
 beq-refl true = refl
 beq-refl false = refl
@@ -113,9 +111,6 @@ value-passes u v p = cond-false (not (eqb u v)) 1 0 (ap not (eq-eqb u v p))
 -- the bodies
 
 module _ (B : Build) where
-  abbrev pub wr : Bool → ℕ → State → State
-  wr b a S = written B a (equalBits (B .width) b) 0 S
-
   abbrev pub turn : Bool → ℕ → List Step
   turn b a = map (atWord (B .width) a) (Write (not b) ∷ Compare (comparing (not b) true) ∷ Write b ∷ [])
 
@@ -127,23 +122,6 @@ module _ (B : Build) where
 
   abbrev pub half : Bool → Bool → List Step → List Step
   half dir b rest = sweep dir (B .words) (turn b) ++ (sweep dir (B .words) (look b) ++ (upward (B .width) (column b) ++ rest))
-
-  -- what a whole write does
-  pub wr-here : (b : Bool) (a j : ℕ) (S : State) → a < B .words → j < B .width → wr b a S .held a j ≡ put (B .storage a j) (S .held a j) b
-  wr-here b a j S ha hj =
-      cond-true (here B a a) _ _ (and-from _ _ (eq-eqb a a refl) (lt-ltb a (B .words) ha))
-      ∙ cond-true (ltb j (B .width) && not (bit 0 j)) _ _ (and-from _ _ (lt-ltb j (B .width) hj) (ap not (bit-zero j)))
-      ∙ ap (put (B .storage a j) (S .held a j)) (bit-equal (B .width) b j hj)
-
-  pub wr-other : (b : Bool) (a k j : ℕ) (S : State) → (k ≡ a → ⊥) → wr b a S .held k j ≡ S .held k j
-  wr-other b a k j S n =
-      cond-false (here B a k) _ _ (and-left _ _ (ne-eqb k a n))
-
-  pub wr-mark-here : (b : Bool) (a : ℕ) (S : State) → a < B .words → wr b a S .mark a ≡ cond (B .stuck a) (S .mark a) true
-  wr-mark-here b a S ha = cond-true (here B a a) _ _ (and-from _ _ (eq-eqb a a refl) (lt-ltb a (B .words) ha))
-
-  pub wr-mark-other : (b : Bool) (a k : ℕ) (S : State) → (k ≡ a → ⊥) → wr b a S .mark k ≡ S .mark k
-  wr-mark-other b a k S n = cond-false (here B a k) _ _ (and-left _ _ (ne-eqb k a n))
 
   abbrev pub Free : ℕ → State → Type 0
   Free k S = B .stuck k ≡ true → S .mark k ≡ false
@@ -158,7 +136,7 @@ module _ (B : Build) where
   is-free : (b : Bool) (k : ℕ) (S : State) → Is b k S → Free k S
   is-free b k S i e = i .0 ∙ ap not e
 
-  pub wr-free : (b : Bool) (a k : ℕ) (S : State) → Free k S → Free k (wr b a S)
+  pub wr-free : (b : Bool) (a k : ℕ) (S : State) → Free k S → Free k (wr B b a S)
   wr-free b a k S f e = go (here B a k) (B .stuck k) (S .mark k) e ∙ f e
     where
       go : (t s m : Bool) → s ≡ true → cond t (cond s m true) m ≡ m
@@ -172,17 +150,17 @@ module _ (B : Build) where
 
   turn-shows : (b : Bool) (k : ℕ) (S : State) → k < B .words → Shows b k (after B (turn b k) S)
   turn-shows b k S hk j hj e =
-      let T : State = wr (not b) k S in
+      let T : State = wr B (not b) k S in
       cycled (B .storage k j) b (S .held k j)
-      (ap (λ x. put (B .storage k j) x b) (sym (wr-here (not b) k j S hk hj)) ∙ sym (wr-here b k j T hk hj) ∙ e)
+      (ap (λ x. put (B .storage k j) x b) (sym (wr-here B (not b) k j S hk hj)) ∙ sym (wr-here B b k j T hk hj) ∙ e)
 
-  shows-other : (b c : Bool) (a k : ℕ) (S : State) → (k ≡ a → ⊥) → Shows b k S → Shows b k (wr c a S)
-  shows-other b c a k S n s j hj e = s j hj (sym (wr-other c a k j S n) ∙ e)
+  shows-other : (b c : Bool) (a k : ℕ) (S : State) → (k ≡ a → ⊥) → Shows b k S → Shows b k (wr B c a S)
+  shows-other b c a k S n s j hj e = s j hj (sym (wr-other B c a k j S n) ∙ e)
 
   turn-keeps : (b : Bool) (k i : ℕ) (S : State) → k < B .words → i < B .words → Shows b i S → Shows b i (after B (turn b k) S)
   turn-keeps b k i S hk hi s =
       split (eqb i k) (λ e. let P : ℕ → Type 0 = λ x. Shows b x (after B (turn b k) S) in subst P (sym (eqb-true i k e)) (turn-shows b k S hk))
-      (λ e. let n : i ≡ k → ⊥ = eqb-false i k e in shows-other b b k i (wr (not b) k S) n (shows-other b (not b) k i S n s))
+      (λ e. let n : i ≡ k → ⊥ = eqb-false i k e in shows-other b b k i (wr B (not b) k S) n (shows-other b (not b) k i S n s))
 
   read-shows : (b : Bool) (k : ℕ) (S : State) → k < B .words → misses B (look b k) S ≡ 0 → (j : ℕ) → j < B .width → S .held k j ≡ b
   read-shows b k S hk h =
@@ -227,23 +205,23 @@ module _ (B : Build) where
   abbrev pub All-good : Type 0
   All-good = (k j : ℕ) → k < B .words → j < B .width → B .storage k j ≡ Good
 
-  pub wr-is : All-good → (b : Bool) (k : ℕ) (S : State) → k < B .words → Free k S → Is b k (wr b k S)
+  pub wr-is : All-good → (b : Bool) (k : ℕ) (S : State) → k < B .words → Free k S → Is b k (wr B b k S)
   wr-is good b k S hk f = (
-    wr-mark-here b k S hk
+    wr-mark-here B b k S hk
         ∙ split (B .stuck k) (λ e. cond-true (B .stuck k) (S .mark k) true e ∙ f e ∙ sym (ap not e))
         (λ e. cond-false (B .stuck k) (S .mark k) true e ∙ sym (ap not e)),
-    λ j hj. wr-here b k j S hk hj ∙ ap (λ s. put s (S .held k j) b) (good k j hk hj),
+    λ j hj. wr-here B b k j S hk hj ∙ ap (λ s. put s (S .held k j) b) (good k j hk hj),
   )
 
-  pub is-other : (b c : Bool) (a k : ℕ) (S : State) → (k ≡ a → ⊥) → Is b k S → Is b k (wr c a S)
-  is-other b c a k S n i = (wr-mark-other c a k S n ∙ i .0, λ j hj. wr-other c a k j S n ∙ i .1 j hj)
+  pub is-other : (b c : Bool) (a k : ℕ) (S : State) → (k ≡ a → ⊥) → Is b k S → Is b k (wr B c a S)
+  is-other b c a k S n i = (wr-mark-other B c a k S n ∙ i .0, λ j hj. wr-other B c a k j S n ∙ i .1 j hj)
 
   -- a write of b anywhere leaves a word that held b as it is
-  pub is-kept : All-good → (b : Bool) (a k : ℕ) (S : State) → a < B .words → Is b k S → Is b k (wr b a S)
+  pub is-kept : All-good → (b : Bool) (a k : ℕ) (S : State) → a < B .words → Is b k S → Is b k (wr B b a S)
   is-kept good b a k S ha i =
       split (eqb k a)
       (λ e. let q : k ≡ a = eqb-true k a e in
-      let P : ℕ → Type 0 = λ x. Is b x (wr b a S) in
+      let P : ℕ → Type 0 = λ x. Is b x (wr B b a S) in
       let F : ℕ → Type 0 = λ x. Free x S in
       subst P (sym q) (wr-is good b a S ha (subst F q (is-free b k S i))))
       (λ e. is-other b b a k S (eqb-false k a e) i)
@@ -254,8 +232,8 @@ module _ (B : Build) where
       (λ e. let q : i ≡ k = eqb-true i k e in
       let P : ℕ → Type 0 = λ x. Is b x (after B (turn b k) S) in
       let F : ℕ → Type 0 = λ x. Free x S in
-      subst P (sym q) (wr-is good b k (wr (not b) k S) hk (wr-free (not b) k k S (subst F q (is-free b i S is)))))
-      (λ e. let n : i ≡ k → ⊥ = eqb-false i k e in is-other b b k i (wr (not b) k S) n (is-other b (not b) k i S n is))
+      subst P (sym q) (wr-is good b k (wr B (not b) k S) hk (wr-free (not b) k k S (subst F q (is-free b i S is)))))
+      (λ e. let n : i ≡ k → ⊥ = eqb-false i k e in is-other b b k i (wr B (not b) k S) n (is-other b (not b) k i S n is))
 
   -- the pair of h held and c compared is in no wrong set of a word whose mark can be set
   abbrev pub Clear : Bool → Bool → Type 0
@@ -280,7 +258,7 @@ module _ (B : Build) where
   turn-right : All-good → 0 < B .width → (b : Bool) (k : ℕ) (S : State) → k < B .words → Uniform b S → misses B (turn b k) S ≡ 0
       → Clear b (not b) → Right (not b) k
   turn-right good w1 b k S hk u h cl =
-      let T : State = wr (not b) k S in
+      let T : State = wr B (not b) k S in
       let is : Is (not b) k T = wr-is good (not b) k S hk (is-free b k S (u k hk)) in
       let p : ℕ = equalBits (B .width) (not b) in
       let some : hit B p 0 T ≡ true = hit-was (hit B p 0 T) true (0 + 0) (omega arith) in
@@ -361,7 +339,7 @@ module _ (B : Build) where
   module _ (sound : Sound B) where
     turn-passes : (b : Bool) (k : ℕ) (S : State) → k < B .words → Is b k S → misses B (turn b k) S ≡ 0
     turn-passes b k S hk is =
-        let T : State = wr (not b) k S in
+        let T : State = wr B (not b) k S in
         let it : Is (not b) k T = wr-is (sound .good) (not b) k S hk (is-free b k S is) in
         let p : ℕ = equalBits (B .width) (not b) in
         let all : allBelow (B .width) (λ i. bit 0 i || agrees (B .wrong k i) (T .held k i) (bit p i)) ≡ true =

@@ -14,7 +14,7 @@ use Rattle.std.specs.shelf.Maps.{nth}
 use Rattle.std.proofs.shelf.Tests.{true≢false, lt-ltb, le-ltb, ltb-true, ltb-false, cond-true, cond-false}
 use Rattle.cam.proofs.Below.{split}
 use Rattle.march.specs.declared.step.Step.{Step}
-use Rattle.march.specs.Machine.{upward}
+use Rattle.cam.specs.Machine.{upward}
 use Rattle.march.specs.Tests.{Element, visits, visit, stepAt, stepsOf, schedule}
 use Rattle.march.proofs.Lengths.{perVisit, visit-length}
 use Rattle.mlt1.specs.Left.{fromOn, restOf, leftIn}

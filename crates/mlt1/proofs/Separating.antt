@@ -8,9 +8,9 @@ use Rattle.cam.specs.Model.{Build, State, Steady}
 use Rattle.cam.specs.Defects.{Sound}
 use Rattle.march.specs.declared.step.Step.{Step}
 use Rattle.march.specs.declared.element.TestOperation.the-variants.{Write}
-use Rattle.march.specs.Machine.{upward}
+use Rattle.cam.specs.Machine.{upward}
 use Rattle.march.specs.Tests.{atWord, schedule, after, misses}
-use Rattle.march.proofs.Machine.{upward-reversed}
+use Rattle.cam.proofs.Machine.{upward-reversed}
 use Rattle.march.proofs.Sweeps.{gather, passes, first-passes, then-passes, both-pass}
 use Rattle.mlt1.specs.Mlt1.{mlt1}
 use Rattle.mlt1.specs.Separation.{Separates}

@@ -12,7 +12,7 @@ use Rattle.std.proofs.shelf.Tests.{ltb-false}
 use Rattle.cam.specs.Model.{Build, State, tallyCap}
 use Rattle.march.specs.declared.step.Step.{Step}
 use Rattle.march.specs.Tests.{stepped, missed, after, misses, schedule}
-use Rattle.march.proofs.Machine.{after-++, misses-++}
+use Rattle.cam.proofs.Machine.{after-++, misses-++}
 use Rattle.march.proofs.Sweeps.{after-tally, misses-within}
 use Rattle.mlt1.specs.declared.state.RunState.{RunState}
 use Rattle.mlt1.specs.Mlt1.{mlt1}

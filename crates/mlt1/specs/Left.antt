@@ -46,6 +46,10 @@ Next N W s (Some x) =
 abbrev pub plus : ℕ → ℕ → ℕ
 plus a b = max a (min (a + b) (2 ^ 32 - 1))
 
+-- a run that has done nothing
+abbrev pub atStart : RunState
+atStart = record { element = 0; visit = 0; operation = 0; place = 0; misses = 0 }
+
 -- the state past the step at which it stands
 abbrev pub passed : Bool → RunState → RunState
 passed missed s =

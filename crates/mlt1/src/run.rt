@@ -8,7 +8,7 @@ ghost use lib.ListN.{length};
 ghost use Rattle.cam.specs.Model.{tallyCap};
 ghost use Rattle.march.specs.Tests.{schedule};
 ghost use Rattle.mlt1.specs.Mlt1.{mlt1};
-ghost use Rattle.mlt1.specs.Left.{left, Went};
+ghost use Rattle.mlt1.specs.Left.{left, atStart, Went};
 use crate::state::RunState;
 use cam::array::CamArray;
 use march::step::perform;
@@ -16,6 +16,7 @@ use march::step::perform;
 impl RunState {
     // Where a run starts: nothing is done, and the whole schedule is left, whatever the size of the array.
     pub fn start() -> RunState
+        ensures first_operation_next { λ r. ⌜ r ≡ atStart ⌝ }
         ensures whole_schedule_left { λ r. ⌜ ((N W : ℕ) → left N W r ≡ schedule N W mlt1) ⌝ }
         ensures at_place_0 { λ r. ⌜ r .place ≡ 0 ⌝ }
         ensures no_miss_yet { λ r. ⌜ r .misses ≡ 0 ⌝ }

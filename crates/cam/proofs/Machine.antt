@@ -5,8 +5,8 @@ use mathlib.Core.List.{List, [], _∷_, _++_, append-assoc, append-nil}
 use Prim.Native.Nat.{ℕ, zero, suc, _+_, _-_, _<_, _≤_}
 use native.Mathlib.Omega.{arith}
 use lib.ListN.{length}
 use Rattle.cam.proofs.Below.{below-suc}
-use Rattle.march.specs.Machine.{afterOf, missesOf, upward}
+use Rattle.cam.specs.Machine.{afterOf, missesOf, upward}
 
 -- f (n - 1), .., f 1, f 0, one after the other
 abbrev pub downward : {X : Type 0} → ℕ → (ℕ → List X) → List X

@@ -1,0 +1,5 @@
+pub mod Books
+pub mod Questions
+pub mod Calls
+pub mod Rules
+pub mod Judging
