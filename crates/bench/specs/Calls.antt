@@ -26,6 +26,10 @@ desk S b = record { state = S; books = b }
 abbrev pub Decided : List Question → Type 0 → Type 0 → Type 0
 Decided qs granted refused = (firstNo qs ≡ 0 → granted) × ((firstNo qs ≡ 0 → ⊥) → refused)
 
+-- what a list of calls has for a chart: a byte for each cell of the largest array, 256 words of 64 bits
+abbrev pub chartBytes : ℕ
+chartBytes = 16384
+
 -- A call leads from the desk D to the desk E. A chart is drawn into a buffer of so many bytes, at most all of M.
 abbrev pub Performs : Build → ℕ → Call → Desk → Desk → Type 0
 Performs B M (ByHand o) D E =

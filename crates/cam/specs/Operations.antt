@@ -28,6 +28,13 @@ answerNumber Nothing = 0
 answerNumber (Bits n) = 1
 answerNumber (Hit b) = 2
 
+-- which sort of answer an operation gives
+abbrev pub answerSort : Operation → ℕ
+answerSort (Write a p m) = 0
+answerSort (Read a) = 1
+answerSort (Compare p m) = 2
+answerSort (Erase a) = 0
+
 -- the state after each operation of a list in turn
 abbrev pub afterAll : Build → List Operation → State → State
 afterAll B = afterOf (operated B)

@@ -3,7 +3,7 @@ ghost use mathlib.Core.Path.{_≡_};
 ghost use Prim.Native.Nat.{_+_, min};
 ghost use lib.ListN.{length};
 ghost use Rattle.cam.specs.Model.{Steady, tallyCap};
-ghost use Rattle.cam.specs.Operations.{operated, answered, afterAll, Steadiness-stays};
+ghost use Rattle.cam.specs.Operations.{operated, answered, answerNumber, answerSort, afterAll, Steadiness-stays};
 use crate::array::CamArray;
 use crate::index::WordIndex;
 
@@ -37,6 +37,7 @@ pub enum Answer {
 // Does one operation.
 pub fn operate<C: CamArray>(array: &mut C, operation: Operation) -> Answer
     ensures answer { λ r. ⌜ r ≡ answered (build (now (array .entry))) operation (state (now (array .entry))) ⌝ }
+    ensures sort_of_answer { λ r. ⌜ answerNumber r ≡ answerSort operation ⌝ }
     ensures state_after { λ _. ⌜ state (now (array .exit)) ≡ operated (build (now (array .entry))) operation (state (now (array .entry))) ⌝ }
     ensures build_stays { λ _. ⌜ build (now (array .exit)) ≡ build (now (array .entry)) ⌝ }
 {

@@ -13,7 +13,7 @@ ghost use Rattle.cam.specs.declared.operation.Operation.the-variants.{Erase};
 ghost use Rattle.cam.specs.Machine.{upward};
 ghost use Rattle.march.specs.Tests.{word as wordOf};
 ghost use Rattle.chart.specs.Bytes.{byteOf, chartByte};
-ghost use Rattle.chart.specs.Chart.{onEachColumn, wordOperations, chartOperations, Answered, countBelow, Row, Charted, blemishes};
+ghost use Rattle.chart.specs.Chart.{Chart-length, onEachColumn, wordOperations, chartOperations, Answered, countBelow, Row, Charted, blemishes};
 use crate::answers::Answers;
 use cam::array::CamArray;
 use cam::bits::all_but_column;
@@ -25,6 +25,7 @@ use cam::index::WordIndex;
 pub fn operation_count(words: u16, width: u8) -> u32
     ensures eight_and_four_a_column_for_each_word { λ r. ⌜ r ≡ words * (8 + 4 * width) ⌝ }
     ensures operations_of_a_chart { λ r. ⌜ r ≡ length (chartOperations words width) ⌝ }
+    ensures length_at_every_size { λ _. ⌜ Chart-length ⌝ }
 {
     words as u32 * (8 + 4 * width as u32)
 }

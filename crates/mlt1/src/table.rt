@@ -6,7 +6,7 @@ ghost use lib.ListN.{length};
 ghost use Rattle.std.specs.Options.{mapped};
 ghost use Rattle.std.specs.shelf.Maps.{nth};
 ghost use Rattle.march.specs.Tests.{meant, schedule};
-ghost use Rattle.mlt1.specs.Mlt1.{mlt1};
+ghost use Rattle.mlt1.specs.Mlt1.{mlt1, Length-is};
 use march::element::Comparison;
 use march::element::Element;
 use march::element::TestOperation;
@@ -94,6 +94,7 @@ pub fn element(at: u8) -> Option<Element>
 pub fn operation_count(words: u16, width: u8) -> u32
     ensures eleven_a_word_two_a_column { λ r. ⌜ r ≡ 11 * words + 2 * width ⌝ }
     ensures steps_of_schedule { λ r. ⌜ r ≡ length (schedule words width mlt1) ⌝ }
+    ensures length_at_every_size { λ _. ⌜ Length-is ⌝ }
 {
     11 * words as u32 + 2 * width as u32
 }

@@ -7,7 +7,7 @@ loop-call-holds g c = led-none _ _ _ _ _ _ refl refl (c .new-bench .ensures .not
 
 pub loop-call-again : need.loop-call-again
 loop-call-again g c =
-    led-more _ _ _ _ (c .args .calls .now) (c .loop-call .call-index) _ _ _ _ _ (c .loop-call-test .taken) (c .loop-call .kept .memory)
+    led-more _ _ _ _ (c .args .calls .now) (c .loop-call .call-index) _ _ _ _ _ (c .loop-call-test .taken) refl
     (g .C·CamArray .formed (c .loop-call .bench .array)) (c .loop-call .inv) (c .perform .ensures .call-performed) (c .perform .ensures .build-stays)
 
 pub returns : need.returns
