@@ -22,6 +22,9 @@ APART = {
     "wrong-pairs": "wrong_pairs_lem",
 }
 
+# names that an import gives to another crate's definition
+IMPORTED_AS = {"Chart-in": "ChartIn"}
+
 STOPS = r"\s(){}\[\],.;`"
 
 
@@ -50,8 +53,12 @@ def declared(path):
             inside = bool(re.match(r"(?:pub |abbrev |unfoldable )*(record|data) ", line))
             continue
         field = re.match(r"\s+(?:pub )?([^\s:(){}.,;=]+)\s*:", line)
+        # within a module with parameters the declarations stand two spaces in
+        nested = re.match(r"  (?:pub |abbrev |unfoldable |record |data )*([^\s:(){}.,;=]+)\s+(?=[:({])", line)
         if field and inside:
             fields.add(field.group(1))
+        elif nested and not inside and re.search(r"\s:(\s|$)", line):
+            tops.add(nested.group(1))
         elif line.strip() and not line[0].isspace():
             inside = False
     return tops, fields
@@ -92,6 +99,7 @@ def main():
             continue
         names.update(changed)
         fields |= {n for n in own_fields if new_name(n) != n}
+    names.update(IMPORTED_AS)
     if "--list" in sys.argv:
         for old in sorted(names):
             print(old, names[old])

@@ -27,8 +27,8 @@ module _ (n : ℕ) (p q : PlaneArray) (rs : List WordRecord) (k : KeepsLater p q
       ap (λ (m : ℕ). drop m (vec_items q.records)) (sym w) ∙ k.later ∙ ap (λ (m : ℕ). drop m (vec_items p.records)) w
       ∙ ap (drop n) e ∙ blanked_later n rs l
 
-  pub later-words : drop q.words (vec_items q.records) ≡ drop q.words rs
-  later-words =
+  pub later_words : drop q.words (vec_items q.records) ≡ drop q.words rs
+  later_words =
       let same : q.words ≡ n = k.words ∙ w in
       ap (λ (m : ℕ). drop m (vec_items q.records)) same ∙ later_of ∙ ap (λ (m : ℕ). drop m rs) (sym same)
 

@@ -80,15 +80,15 @@ unmark_state N W ds a =
     ap {B = State} (λ m. record { held = λ k i. is_sa1 (storage_in ds k i); mark = m; tally = 0 }) (fun_ext (λ k. and_right (not (eqb k a.number)) false refl))
 
 module _ (N W : ℕ) (ds : List Defect) (p q : PlaneArray) (h : Holds N W ds p) where
-  cell-there : (a j : ℕ) → a < N → j < W → has_cell (build_of p) a j ≡ true
-  cell-there a j l m = ap (λ B. has_cell B a j) h.build ∙ and_from (ltb a N) (ltb j W) (lt-ltb a N l) (lt-ltb j W m)
+  cell_there : (a j : ℕ) → a < N → j < W → has_cell (build_of p) a j ≡ true
+  cell_there a j l m = ap (λ B. has_cell B a j) h.build ∙ and_from (ltb a N) (ltb j W) (lt-ltb a N l) (lt-ltb j W m)
 
-  pub storage-planted : (a : WordIndex) (j : ColumnIndex) (s : StorageDefect) → Inside N W (Storage a j s)
+  pub storage_planted : (a : WordIndex) (j : ColumnIndex) (s : StorageDefect) → Inside N W (Storage a j s)
       → first_no (ask (has_cell (build_of p) a.number j.number) 42 ∷ ask (is_good ((build_of p).storage a.number j.number)) 43 ∷ []) ≡ 0
       → build_of q ≡ with_storage a.number j.number (storage_with s) (build_of p)
       → state_of q ≡ settled a.number j.number (storage_with s) (state_of p)
       → (some (repeats (Storage a j s)) ds ≡ false) × Holds N W (Storage a j s ∷ ds) q
-  storage-planted a j s i asks b t =
+  storage_planted a j s i asks b t =
       let good : is_good (storage_in ds a.number j.number) ≡ true = ap (λ B. is_good (B.storage a.number j.number)) (sym h.build) ∙ second_yes _ _ asks in
       let fresh : some (says_storage a.number j.number) ds ≡ false = said_storage ds a.number j.number ∙ ap not good in (
         fresh,
@@ -100,12 +100,12 @@ module _ (N W : ℕ) (ds : List Defect) (p q : PlaneArray) (h : Holds N W ds p) 
         },
       )
 
-  pub storage-repeated : (a : WordIndex) (j : ColumnIndex) (s : StorageDefect) (f : Fault) → a.number < N → j.number < W
+  pub storage_repeated : (a : WordIndex) (j : ColumnIndex) (s : StorageDefect) (f : Fault) → a.number < N → j.number < W
       → Refused (first_no (ask (has_cell (build_of p) a.number j.number) 42 ∷ ask (is_good ((build_of p).storage a.number j.number)) 43 ∷ [])) f
       → some (repeats (Storage a j s)) ds ≡ true
-  storage-repeated a j s f l m r =
+  storage_repeated a j s f l m r =
       said_storage ds a.number j.number
-      ∙ ap not (ap (λ B. is_good (B.storage a.number j.number)) (sym h.build) ∙ second_no _ _ f (cell-there a.number j.number l m) r)
+      ∙ ap not (ap (λ B. is_good (B.storage a.number j.number)) (sym h.build) ∙ second_no _ _ f (cell_there a.number j.number l m) r)
 
   not_not : (b : Bool) (t : Bool) → not b ≡ t → b ≡ not t
   not_not true t e = ap not e
@@ -128,18 +128,18 @@ module _ (N W : ℕ) (ds : List Defect) (p q : PlaneArray) (h : Holds N W ds p) 
         },
       )
 
-  pub pair-repeated : (a : WordIndex) (j : ColumnIndex) (x : Pair) (f : Fault) → a.number < N → j.number < W
+  pub pair_repeated : (a : WordIndex) (j : ColumnIndex) (x : Pair) (f : Fault) → a.number < N → j.number < W
       → Refused (first_no (ask (has_cell (build_of p) a.number j.number) 42 ∷ ask (not ((build_of p).wrong a.number j.number x.held x.comparand)) 43 ∷ [])) f
       → some (repeats (Wrong a j x)) ds ≡ true
-  pair-repeated a j x f l m r =
-      ap (λ B. B.wrong a.number j.number x.held x.comparand) (sym h.build) ∙ not_not _ false (second_no _ _ f (cell-there a.number j.number l m) r)
+  pair_repeated a j x f l m r =
+      ap (λ B. B.wrong a.number j.number x.held x.comparand) (sym h.build) ∙ not_not _ false (second_no _ _ f (cell_there a.number j.number l m) r)
 
-  pub mark-planted : (a : WordIndex) → Inside N W (Mark a)
+  pub mark_planted : (a : WordIndex) → Inside N W (Mark a)
       → first_no (ask (has_word (build_of p) a.number) 42 ∷ ask (not ((build_of p).stuck a.number)) 43 ∷ []) ≡ 0
       → build_of q ≡ with_stuck_mark a.number (build_of p)
       → state_of q ≡ unmarked a.number (state_of p)
       → (some (repeats (Mark a)) ds ≡ false) × Holds N W (Mark a ∷ ds) q
-  mark-planted a i asks b t =
+  mark_planted a i asks b t =
       let fresh : some (says_stuck a.number) ds ≡ false = ap (λ B. B.stuck a.number) (sym h.build) ∙ not_not _ true (second_yes _ _ asks) in (
         fresh,
         record {
@@ -150,8 +150,8 @@ module _ (N W : ℕ) (ds : List Defect) (p q : PlaneArray) (h : Holds N W ds p) 
         },
       )
 
-  pub mark-repeated : (a : WordIndex) (f : Fault) → a.number < N
+  pub mark_repeated : (a : WordIndex) (f : Fault) → a.number < N
       → Refused (first_no (ask (has_word (build_of p) a.number) 42 ∷ ask (not ((build_of p).stuck a.number)) 43 ∷ [])) f
       → some (repeats (Mark a)) ds ≡ true
-  mark-repeated a f l r =
+  mark_repeated a f l r =
       ap (λ B. B.stuck a.number) (sym h.build) ∙ not_not _ false (second_no _ _ f (ap (λ B. has_word B a.number) h.build ∙ lt-ltb a.number N l) r)

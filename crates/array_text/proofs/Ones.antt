@@ -15,7 +15,7 @@ use Rattle.words.specs.Forms.{meaning_fault, Next, WordNext}
 use Rattle.words.specs.Listings.{gathered}
 use Rattle.words.proofs.Rules.{One, then_one, then_made}
 use Rattle.words.proofs.Lexemes.{clash, measured_one}
-use Rattle.words.proofs.Lists.{listing-one}
+use Rattle.words.proofs.Lists.{listing_one}
 use Rattle.words.proofs.Parts.{next_one, word_next_one}
 use Rattle.array_lines.specs.declared.cell.Defect.{Defect}
 use Rattle.array_lines.specs.Numbers.{NumberWithin}
@@ -51,7 +51,7 @@ line_at_one : (N W : ℕ) (text : List ℕ) (ds : List Defect) (t : Token) → O
 line_at_one N W text ds t = then_one (LineNext N W text t.to) _ (line_one N W text t.to) (λ l. adds_line_one ds t.from l.to l.defect)
 
 lines_one : (N W : ℕ) (text : List ℕ) (ds : List Defect) (a : ℕ) → One (Lines N W text ds a)
-lines_one N W text ds a = listing-one (λ _. Unit {0}) (LineAt N W text) text (line_at_one N W text) ds a
+lines_one N W text ds a = listing_one (λ _. Unit {0}) (LineAt N W text) text (line_at_one N W text) ds a
 
 rest_one : (N W : ℕ) (text : List ℕ) (a : ℕ) → One (Rest N W text a)
 rest_one N W text a =

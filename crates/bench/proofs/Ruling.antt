@@ -109,10 +109,10 @@ chart_asked B S b bytes e = (grind (arith, tells), grind (arith, tells))
 
 -- the two rules that what was found has to meet, for any new tally
 module _ (B : Build) (made : ℕ) (S : State) (b : Books) (old : Rules B made S b) where
-  same-finding : (T : State) (c : Books) → c.finding ≡ b.finding → c.closes ≡ b.closes → c.charts ≡ b.charts
+  same_finding : (T : State) (c : Books) → c.finding ≡ b.finding → c.closes ≡ b.closes → c.charts ≡ b.charts
       → T.tally ≡ made + c.hand + run_length B * c.closes + chart_length B * c.charts + c.quits + c.run.place
       → Rules B made T c
-  same-finding T c f l h t =
+  same_finding T c f l h t =
       record {
         sound_is_sound = λ e. old.sound_is_sound (ap finding_number (sym f) ∙ e);
         faulty_is_faulty = λ e. old.faulty_is_faulty (ap finding_number (sym f) ∙ e);
@@ -134,7 +134,7 @@ hand_holds B made D o formed holds asked =
     let idle : b.running ≡ false = not-true b.running both.0 in
     let sum = holds.rules.tally_adds_up in
     record {
-      rules = same-finding B made S b holds.rules (operated B o S) (handled b) refl refl refl
+      rules = same_finding B made S b holds.rules (operated B o S) (handled b) refl refl refl
           (omega (arith, tally_more B o S, both.1, sum));
       resting = holds.resting;
       running = λ e. absurd (both_ways b.running idle e);
@@ -150,7 +150,7 @@ start_holds B made D formed holds asked =
     let idle : b.running ≡ false = not-true b.running both.0 in
     let at = ap (λ (r : RunState). r.place) (holds.resting idle) in
     record {
-      rules = same-finding B made S b holds.rules S (started b) refl refl refl (omega (arith, holds.rules.tally_adds_up, at));
+      rules = same_finding B made S b holds.rules S (started b) refl refl refl (omega (arith, holds.rules.tally_adds_up, at));
       resting = λ e. absurd (both_ways true e refl);
       running = λ e. record {
         origin = S;
@@ -213,7 +213,7 @@ step_holds B made D E ticket n formed holds asked w e =
     let P : Books → Type 0 = λ c. Holds B made (desk T c) in
     subst P (sym e)
     (record {
-      rules = same-finding B made S b holds.rules T (with_run s b) refl refl refl (omega (arith, holds.rules.tally_adds_up, tally, next.0, room, within));
+      rules = same_finding B made S b holds.rules T (with_run s b) refl refl refl (omega (arith, holds.rules.tally_adds_up, tally, next.0, room, within));
       resting = λ f. absurd (both_ways b.running f on);
       running = λ f. next.1;
       room = λ f. omega (arith, tally, next.0, room, within);
@@ -269,7 +269,7 @@ quit_holds B made D ticket formed holds =
     let S = D.state in
     let b = D.books in
     record {
-      rules = same-finding B made S b holds.rules S (stopped b) refl refl refl (omega (arith, holds.rules.tally_adds_up, formed.tally_within));
+      rules = same_finding B made S b holds.rules S (stopped b) refl refl refl (omega (arith, holds.rules.tally_adds_up, formed.tally_within));
       resting = λ e. refl;
       running = λ e. absurd (both_ways false refl e);
       room = λ e. absurd (both_ways false refl e);

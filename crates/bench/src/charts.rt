@@ -2,7 +2,7 @@
 ghost use Rattle.std.specs.Prelude.{◌≡◌, length, MatchResult};
 ghost use Rattle.cam.specs.Operations.{after_all};
 ghost use Rattle.cam.specs.Refusals.{Asks};
-ghost use Rattle.chart.specs.Chart.{Charted as Chart-in, chart_operations, blemishes};
+ghost use Rattle.chart.specs.Chart.{Charted as ChartIn, chart_operations, blemishes};
 ghost use Rattle.bench.specs.declared.books.Finding.TheVariants.{Charted};
 ghost use Rattle.bench.specs.Books.{charted};
 ghost use Rattle.bench.specs.Questions.{chart_questions};
@@ -19,7 +19,7 @@ impl<C: CamArray> Bench<C> {
     pub fn chart(&mut self, buffer: &mut [u8]) -> Result<Finding, Fault>
         ensures asks_in_order { Asks (chart_questions (build self.old.array) (state self.old.array) self.old.books (length buffer.old)) result }
         ensures blemished_cells { MatchResult result (λ f. f ≡ Charted (blemishes (build self.old.array))) (λ _. self.new ≡ self.old) }
-        ensures every_byte { MatchResult result (λ _. Chart-in (build self.old.array) buffer.old buffer.new) (λ _. buffer.new ≡ buffer.old) }
+        ensures every_byte { MatchResult result (λ _. ChartIn (build self.old.array) buffer.old buffer.new) (λ _. buffer.new ≡ buffer.old) }
         ensures charted_or_unchanged { MatchResult result (λ _. self.new.books ≡ charted (blemishes (build self.old.array)) self.old.books) (λ _. self.new ≡ self.old) }
         ensures operated_or_unchanged { MatchResult result (λ _. state self.new.array ≡ after_all (build self.old.array) (chart_operations (build self.old.array).words (build self.old.array).width) (state self.old.array)) (λ _. self.new ≡ self.old) }
         ensures build_stays { build self.new.array ≡ build self.old.array }

@@ -1,7 +1,7 @@
 // The judging of one array from start to end.
 ghost use Rattle.std.specs.Prelude.{◌≡◌, length, MatchResult};
 ghost use Rattle.cam.specs.Refusals.{Asks, AsksIn};
-ghost use Rattle.chart.specs.Chart.{Charted as Chart-in};
+ghost use Rattle.chart.specs.Chart.{Charted as ChartIn};
 ghost use Rattle.bench.specs.Judging.{judge_questions, judged_state, Judges};
 
 use crate::bench::{Bench, LIMIT};
@@ -58,7 +58,7 @@ fn may_judge<C: CamArray>(array: &C, bytes: usize) -> Result<(), Fault>
 pub fn judge_array<C: CamArray>(array: C, buffer: &mut [u8]) -> Result<Judged<C>, NotJudged<C>>
     ensures asks_in_order { AsksIn (λ e. e.fault) (judge_questions (build array) (state array) (length buffer.old)) result }
     ensures judgement_is_right { MatchResult result (λ j. Judges (build array) (state array) j.judgement) (λ e. e.array ≡ array) }
-    ensures every_byte { MatchResult result (λ _. Chart-in (build array) buffer.old buffer.new) (λ _. buffer.new ≡ buffer.old) }
+    ensures every_byte { MatchResult result (λ _. ChartIn (build array) buffer.old buffer.new) (λ _. buffer.new ≡ buffer.old) }
     ensures only_these_operations { MatchResult result (λ j. state j.array ≡ judged_state (build array) (state array)) (λ e. e.array ≡ array) }
     ensures build_stays { MatchResult result (λ j. build j.array ≡ build array) (λ e. e.array ≡ array) }
 {

@@ -41,9 +41,9 @@ module _ {X St : Type 0} (step : X → St → St) (missed : X → St → ℕ) wh
   misses-++ (x ∷ xs) ys S = omega (arith, misses-++ xs ys (step x S))
 
   -- a step misses at most once
-  pub misses-few : ((x : X) (S : St) → missed x S ≤ 1) → (xs : List X) (S : St) → misses_of step missed xs S ≤ length xs
-  misses-few few [] S = omega arith
-  misses-few few (x ∷ xs) S = omega (arith, few x S, misses-few few xs (step x S))
+  pub misses_few : ((x : X) (S : St) → missed x S ≤ 1) → (xs : List X) (S : St) → misses_of step missed xs S ≤ length xs
+  misses_few few [] S = omega arith
+  misses_few few (x ∷ xs) S = omega (arith, few x S, misses_few few xs (step x S))
 
   pub first_passes : (xs ys : List X) (S : St) → misses_of step missed (xs ++ ys) S ≡ 0 → misses_of step missed xs S ≡ 0
   first_passes xs ys S h = omega (arith, misses-++ xs ys S)

@@ -11,18 +11,18 @@ module _ (B : Build) where
   wr b a S = written B a (equal_bits B.width b) 0 S
 
   -- what a whole write does
-  pub wr-here : (b : Bool) (a j : ℕ) (S : State) → a < B.words → j < B.width → (wr b a S).held a j ≡ put (B.storage a j) (S.held a j) b
-  wr-here b a j S ha hj =
+  pub wr_here : (b : Bool) (a j : ℕ) (S : State) → a < B.words → j < B.width → (wr b a S).held a j ≡ put (B.storage a j) (S.held a j) b
+  wr_here b a j S ha hj =
       cond-true (here B a a) _ _ (and_from _ _ (eq-eqb a a refl) (lt-ltb a B.words ha))
       ∙ cond-true (ltb j B.width && not (bit 0 j)) _ _ (and_from _ _ (lt-ltb j B.width hj) (ap not (bit_zero j)))
       ∙ ap (put (B.storage a j) (S.held a j)) (bit_equal B.width b j hj)
 
-  pub wr-other : (b : Bool) (a k j : ℕ) (S : State) → (k ≡ a → ⊥) → (wr b a S).held k j ≡ S.held k j
-  wr-other b a k j S n =
+  pub wr_other : (b : Bool) (a k j : ℕ) (S : State) → (k ≡ a → ⊥) → (wr b a S).held k j ≡ S.held k j
+  wr_other b a k j S n =
       cond-false (here B a k) _ _ (and_left _ _ (ne_eqb k a n))
 
-  pub wr-mark-here : (b : Bool) (a : ℕ) (S : State) → a < B.words → (wr b a S).mark a ≡ cond (B.stuck a) (S.mark a) true
-  wr-mark-here b a S ha = cond-true (here B a a) _ _ (and_from _ _ (eq-eqb a a refl) (lt-ltb a B.words ha))
+  pub wr_mark_here : (b : Bool) (a : ℕ) (S : State) → a < B.words → (wr b a S).mark a ≡ cond (B.stuck a) (S.mark a) true
+  wr_mark_here b a S ha = cond-true (here B a a) _ _ (and_from _ _ (eq-eqb a a refl) (lt-ltb a B.words ha))
 
-  pub wr-mark-other : (b : Bool) (a k : ℕ) (S : State) → (k ≡ a → ⊥) → (wr b a S).mark k ≡ S.mark k
-  wr-mark-other b a k S n = cond-false (here B a k) _ _ (and_left _ _ (ne_eqb k a n))
+  pub wr_mark_other : (b : Bool) (a k : ℕ) (S : State) → (k ≡ a → ⊥) → (wr b a S).mark k ≡ S.mark k
+  wr_mark_other b a k S n = cond-false (here B a k) _ _ (and_left _ _ (ne_eqb k a n))

@@ -52,12 +52,12 @@ module _ (n w : ℕ) where
   pub cell_in : (ms : List CellMeaning) (k j : ℕ) → k < n → j < w → cell_at n w ms k j ≡ at ms (k * w + j)
   cell_in ms k j hk hj = cond-true (ltb k n && ltb j w) _ _ (and_from _ _ (lt-ltb k n hk) (lt-ltb j w hj))
 
-  pub mark-in : (marks : List Mark) (k : ℕ) → k < n → mark_at n marks k ≡ get_or marks k Clear
-  mark-in marks k hk = cond-true (ltb k n) _ _ (lt-ltb k n hk)
+  pub mark_in : (marks : List Mark) (k : ℕ) → k < n → mark_at n marks k ≡ get_or marks k Clear
+  mark_in marks k hk = cond-true (ltb k n) _ _ (lt-ltb k n hk)
 
-  pub read-inside : (ms : List CellMeaning) (marks : List Mark) (t a : ℕ) → a < n
+  pub read_inside : (ms : List CellMeaning) (marks : List Mark) (t a : ℕ) → a < n
       → value w (λ j. (at ms (a * w + j)).held) ≡ read_word (build_from n w ms marks) a (state_from n w ms marks t)
-  read-inside ms marks t a h =
+  read_inside ms marks t a h =
       value_same w _ _ (λ j l. ap (λ c. c.held) (sym (cell_in ms a j h l))) ∙ sym (cond-true (ltb a n) _ _ (lt-ltb a n h))
 
   pub some_match : (ms : List CellMeaning) (marks : List Mark) (t p m : ℕ)
@@ -65,7 +65,7 @@ module _ (n w : ℕ) where
       ≡ hit (build_from n w ms marks) p m (state_from n w ms marks t)
   some_match ms marks t p m =
       any_same n _ _ (λ k h.
-      ap₂ ◌&&◌ (ap is_set (sym (mark-in marks k h)))
+      ap₂ ◌&&◌ (ap is_set (sym (mark_in marks k h)))
       (all_same w _ _ (λ j l. ap (λ c. bit m j || agrees c.wrong c.held (bit p j)) (sym (cell_in ms k j h l)))))
 
 -- a write to word a: what stands where
@@ -89,8 +89,8 @@ module _ (n w a p m : ℕ) (ms ns : List CellMeaning) (inside : a < n)
       (λ e. wrote (k * w + j) ∙ wrote_before (a * w) w p m (k * w + j) ms (omega (arith, row_within k a w (ltb-true k a e))))
       (λ e. wrote (k * w + j) ∙ wrote_after (a * w) w p m (k * w + j) ms (omega (arith, row_within a k w (let q = ltb-false k a e in omega arith))))
 
-  cell-after : (k j : ℕ) → cell_at n w ns k j ≡ cond (of_word k j) (wrote_cell p m j (cell_at n w ms k j)) (cell_at n w ms k j)
-  cell-after k j =
+  cell_after : (k j : ℕ) → cell_at n w ns k j ≡ cond (of_word k j) (wrote_cell p m j (cell_at n w ms k j)) (cell_at n w ms k j)
+  cell_after k j =
       split (ltb k n && ltb j w)
       (λ e.
       let b = and_parts (ltb k n) _ e in
@@ -103,38 +103,38 @@ module _ (n w a p m : ℕ) (ms ns : List CellMeaning) (inside : a < n)
       (λ e. cond-false (ltb k n && ltb j w) _ _ e ∙ sym (cond-false (ltb k n && ltb j w) (at ms (k * w + j)) blank_cell e)
       ∙ sym (cond-false (of_word k j) _ _ (and_right (eqb k a) _ e)))
 
-  held-bit : (x y z b v : Bool) (c : CellMeaning)
+  held_bit : (x y z b v : Bool) (c : CellMeaning)
       → (cond (x && (y && z)) (cond b c (taken v c)) c).held ≡ cond (x && y) (cond (z && not b) (put c.storage c.held v) c.held) c.held
-  held-bit false y z b v c = refl
-  held-bit true false z b v c = refl
-  held-bit true true false b v c = refl
-  held-bit true true true false v c = refl
-  held-bit true true true true v c = refl
+  held_bit false y z b v c = refl
+  held_bit true false z b v c = refl
+  held_bit true true false b v c = refl
+  held_bit true true true false v c = refl
+  held_bit true true true true v c = refl
 
   same_storage : (x b v : Bool) (c : CellMeaning) → (cond x (cond b c (taken v c)) c).storage ≡ c.storage
   same_storage false b v c = refl
   same_storage true false v c = refl
   same_storage true true v c = refl
 
-  same-wrong : (x b v : Bool) (c : CellMeaning) → (cond x (cond b c (taken v c)) c).wrong ≡ c.wrong
-  same-wrong false b v c = refl
-  same-wrong true false v c = refl
-  same-wrong true true v c = refl
+  same_wrong : (x b v : Bool) (c : CellMeaning) → (cond x (cond b c (taken v c)) c).wrong ≡ c.wrong
+  same_wrong false b v c = refl
+  same_wrong true false v c = refl
+  same_wrong true true v c = refl
 
   pub held_after : (k j : ℕ) → (cell_at n w ns k j).held
       ≡ cond (eqb k a && ltb k n) (written_bit w (λ j. (cell_at n w ms k j).storage) p m (λ j. (cell_at n w ms k j).held) j) (cell_at n w ms k j).held
-  held_after k j = ap (λ c. c.held) (cell-after k j) ∙ held-bit (eqb k a) (ltb k n) (ltb j w) (bit m j) (bit p j) (cell_at n w ms k j)
+  held_after k j = ap (λ c. c.held) (cell_after k j) ∙ held_bit (eqb k a) (ltb k n) (ltb j w) (bit m j) (bit p j) (cell_at n w ms k j)
 
-  pub storage-after : (k j : ℕ) → (cell_at n w ns k j).storage ≡ (cell_at n w ms k j).storage
-  storage-after k j = ap (λ c. c.storage) (cell-after k j) ∙ same_storage (of_word k j) (bit m j) (bit p j) (cell_at n w ms k j)
+  pub storage_after : (k j : ℕ) → (cell_at n w ns k j).storage ≡ (cell_at n w ms k j).storage
+  storage_after k j = ap (λ c. c.storage) (cell_after k j) ∙ same_storage (of_word k j) (bit m j) (bit p j) (cell_at n w ms k j)
 
-  pub wrong-after : (k j : ℕ) → (cell_at n w ns k j).wrong ≡ (cell_at n w ms k j).wrong
-  wrong-after k j = ap (λ c. c.wrong) (cell-after k j) ∙ same-wrong (of_word k j) (bit m j) (bit p j) (cell_at n w ms k j)
+  pub wrong_after : (k j : ℕ) → (cell_at n w ns k j).wrong ≡ (cell_at n w ms k j).wrong
+  wrong_after k j = ap (λ c. c.wrong) (cell_after k j) ∙ same_wrong (of_word k j) (bit m j) (bit p j) (cell_at n w ms k j)
 
 -- the mark of word a replaced by `mark`
 module _ (n a : ℕ) (marks : List Mark) (mark : Mark) (inside : a < n) (room : a < length marks) where
-  mark-after : (k : ℕ) → mark_at n (set marks a mark) k ≡ cond (eqb k a && ltb k n) mark (mark_at n marks k)
-  mark-after k =
+  mark_after : (k : ℕ) → mark_at n (set marks a mark) k ≡ cond (eqb k a && ltb k n) mark (mark_at n marks k)
+  mark_after k =
       split (ltb k n)
       (λ e. split (eqb k a)
       (λ q. cond-true (ltb k n) _ _ e ∙ ap (λ (k : ℕ). get_or (set marks a mark) k Clear) (eqb-true k a q) ∙ get_or-set_same marks a mark Clear room
@@ -143,10 +143,10 @@ module _ (n a : ℕ) (marks : List Mark) (mark : Mark) (inside : a < n) (room : 
       (λ e. cond-false (ltb k n) _ _ e ∙ sym (cond-false (ltb k n) (get_or marks k Clear) Clear e) ∙ sym (cond-false (eqb k a && ltb k n) _ _ (and_right (eqb k a) _ e)))
 
   -- what u tells of the marks, where it is known of the mark that was replaced
-  pub marks-after : (u : Mark → Bool) (v : Mark → Bool) → u mark ≡ v (get_or marks a Clear)
+  pub marks_after : (u : Mark → Bool) (v : Mark → Bool) → u mark ≡ v (get_or marks a Clear)
       → (k : ℕ) → u (mark_at n (set marks a mark) k) ≡ cond (eqb k a && ltb k n) (v (mark_at n marks k)) (u (mark_at n marks k))
-  marks-after u v e k =
-      ap u (mark-after k)
+  marks_after u v e k =
+      ap u (mark_after k)
       ∙ split (eqb k a && ltb k n)
       (λ q. let b = and_parts (eqb k a) _ q in
       ap u (cond-true (eqb k a && ltb k n) mark (mark_at n marks k) q) ∙ e ∙ ap v (ap (λ (k : ℕ). get_or marks k Clear) (sym (eqb-true k a b.0)) ∙ sym (cond-true (ltb k n) (get_or marks k Clear) Clear b.1))
@@ -154,7 +154,7 @@ module _ (n a : ℕ) (marks : List Mark) (mark : Mark) (inside : a < n) (room : 
       (λ q. ap u (cond-false (eqb k a && ltb k n) mark (mark_at n marks k) q) ∙ sym (cond-false (eqb k a && ltb k n) (v (mark_at n marks k)) (u (mark_at n marks k)) q))
 
   pub marks_stay : (u : Mark → Bool) → u mark ≡ u (get_or marks a Clear) → (k : ℕ) → u (mark_at n (set marks a mark) k) ≡ u (mark_at n marks k)
-  marks_stay u e k = marks-after u u e k ∙ both-same (eqb k a && ltb k n) (u (mark_at n marks k))
+  marks_stay u e k = marks_after u u e k ∙ both-same (eqb k a && ltb k n) (u (mark_at n marks k))
     where
       both-same : (t y : Bool) → cond t y y ≡ y
       both-same true y = refl
@@ -162,25 +162,25 @@ module _ (n a : ℕ) (marks : List Mark) (mark : Mark) (inside : a < n) (room : 
 
 -- a field of lent cells xs, whose number is l
 module _ {X : Type 0} (f : X → CellMeaning) (N W : ℕ) where
-  pub length-of : (xs : List X) → length (map f xs) ≡ length xs
-  length-of xs = length-map xs f
+  pub length_of : (xs : List X) → length (map f xs) ≡ length xs
+  length_of xs = length-map xs f
 
-  pub build-of : (xs : List X) (marks : List Mark) → field_build (map f xs) N W marks ≡ build_from (used_words N W (length xs)) (used_bits N W (length xs)) (map f xs) marks
-  build-of xs marks = ap (λ (l : ℕ). build_from (used_words N W l) (used_bits N W l) (map f xs) marks) (length-of xs)
+  pub build_of : (xs : List X) (marks : List Mark) → field_build (map f xs) N W marks ≡ build_from (used_words N W (length xs)) (used_bits N W (length xs)) (map f xs) marks
+  build_of xs marks = ap (λ (l : ℕ). build_from (used_words N W l) (used_bits N W l) (map f xs) marks) (length_of xs)
 
-  pub state-of : (xs : List X) (marks : List Mark) (t : ℕ) → field_state (map f xs) N W marks t ≡ state_from (used_words N W (length xs)) (used_bits N W (length xs)) (map f xs) marks t
-  state-of xs marks t = ap (λ (l : ℕ). state_from (used_words N W l) (used_bits N W l) (map f xs) marks t) (length-of xs)
+  pub state_of : (xs : List X) (marks : List Mark) (t : ℕ) → field_state (map f xs) N W marks t ≡ state_from (used_words N W (length xs)) (used_bits N W (length xs)) (map f xs) marks t
+  state_of xs marks t = ap (λ (l : ℕ). state_from (used_words N W l) (used_bits N W l) (map f xs) marks t) (length_of xs)
 
   -- where there is a word a, the width is W
   module _ (a l : ℕ) (inside : a < used_words N W l) where
     pub build-inside : (xs : List X) (marks : List Mark) → length xs ≡ l → field_build (map f xs) N W marks ≡ build_from (used_words N W l) W (map f xs) marks
     build-inside xs marks e =
-        build-of xs marks ∙ ap (λ (l : ℕ). build_from (used_words N W l) (used_bits N W l) (map f xs) marks) e
+        build_of xs marks ∙ ap (λ (l : ℕ). build_from (used_words N W l) (used_bits N W l) (map f xs) marks) e
         ∙ ap (λ (w : ℕ). build_from (used_words N W l) w (map f xs) marks) (bits_used N W l a inside)
 
     pub state-inside : (xs : List X) (marks : List Mark) (t : ℕ) → length xs ≡ l → field_state (map f xs) N W marks t ≡ state_from (used_words N W l) W (map f xs) marks t
     state-inside xs marks t e =
-        state-of xs marks t ∙ ap (λ (l : ℕ). state_from (used_words N W l) (used_bits N W l) (map f xs) marks t) e
+        state_of xs marks t ∙ ap (λ (l : ℕ). state_from (used_words N W l) (used_bits N W l) (map f xs) marks t) e
         ∙ ap (λ (w : ℕ). state_from (used_words N W l) w (map f xs) marks t) (bits_used N W l a inside)
 
     -- a write to word a
@@ -194,7 +194,7 @@ module _ {X : Type 0} (f : X → CellMeaning) (N W : ℕ) where
           state-inside ys (set marks a mark) (one_more t) new
           ∙ (λ d. record {
             held = λ k j. held_after n W a p m (map f xs) (map f ys) inside wrote k j d;
-            mark = λ k. marks-after n a marks mark inside room is_set (λ y. mark_after_write (is_stuck y) (is_set y)) set-unless-stuck k d;
+            mark = λ k. marks_after n a marks mark inside room is_set (λ y. mark_after_write (is_stuck y) (is_set y)) set-unless-stuck k d;
             tally = tally_more t d;
           })
           ∙ ap₂ (λ B S. written B a p m S) (sym (build-inside xs marks old)) (sym (state-inside xs marks t old))
@@ -206,8 +206,8 @@ module _ {X : Type 0} (f : X → CellMeaning) (N W : ℕ) where
           ∙ (λ d. record {
             words = n;
             width = W;
-            storage = λ k j. storage-after n W a p m (map f xs) (map f ys) inside wrote k j d;
-            wrong = λ k j. wrong-after n W a p m (map f xs) (map f ys) inside wrote k j d;
+            storage = λ k j. storage_after n W a p m (map f xs) (map f ys) inside wrote k j d;
+            wrong = λ k j. wrong_after n W a p m (map f xs) (map f ys) inside wrote k j d;
             stuck = λ k. marks_stay n a marks mark inside room is_stuck stuck-stays k d;
           })
           ∙ sym (build-inside xs marks old)
@@ -220,7 +220,7 @@ module _ {X : Type 0} (f : X → CellMeaning) (N W : ℕ) where
           state-inside xs (set marks a mark) (one_more t) old
           ∙ (λ d. record {
             held = λ k j. (cell_at (used_words N W l) W (map f xs) k j).held;
-            mark = λ k. marks-after (used_words N W l) a marks mark inside room is_set (λ y. false) clear k d;
+            mark = λ k. marks_after (used_words N W l) a marks mark inside room is_set (λ y. false) clear k d;
             tally = tally_more t d;
           })
           ∙ ap₂ (λ B S. erased B a S) (sym (build-inside xs marks old)) (sym (state-inside xs marks t old))
@@ -261,7 +261,7 @@ module _ {X : Type 0} (f : X → CellMeaning) (N W : ℕ) where
             width = W;
             storage = λ k j. (cell_at (used_words N W l) W (map f xs) k j).storage;
             wrong = λ k j. (cell_at (used_words N W l) W (map f xs) k j).wrong;
-            stuck = λ k. (marks-after (used_words N W l) a marks mark inside room is_stuck (λ y. true) stuck k ∙ stuck-or k _) d;
+            stuck = λ k. (marks_after (used_words N W l) a marks mark inside room is_stuck (λ y. true) stuck k ∙ stuck-or k _) d;
           })
           ∙ ap (with_stuck_mark a) (sym (build-inside xs marks old))
 
@@ -271,7 +271,7 @@ module _ {X : Type 0} (f : X → CellMeaning) (N W : ℕ) where
           state-inside xs (set marks a mark) t old
           ∙ (λ d. record {
             held = λ k j. (cell_at (used_words N W l) W (map f xs) k j).held;
-            mark = λ k. (marks-after (used_words N W l) a marks mark inside room is_set (λ y. false) clear k ∙ clear-and k _) d;
+            mark = λ k. (marks_after (used_words N W l) a marks mark inside room is_set (λ y. false) clear k ∙ clear-and k _) d;
             tally = min t tally_cap;
           })
           ∙ ap (unmarked a) (sym (state-inside xs marks t old))
@@ -298,9 +298,9 @@ clear_at n k =
     (λ e. get_or_past (replicate 256 Clear) k Clear (omega (arith, ltb-false k 256 e, length-replicate 256 Clear))))
 
 module _ {X : Type 0} (f : X → CellMeaning) (N W : ℕ) (xs : List X) (fit : fits N W (length xs) ≡ true) where
-  pub made-build : field_build (map f xs) N W (replicate 256 Clear) ≡ build_from N W (map f xs) []
-  made-build =
-      build-of f N W xs (replicate 256 Clear)
+  pub made_build : field_build (map f xs) N W (replicate 256 Clear) ≡ build_from N W (map f xs) []
+  made_build =
+      build_of f N W xs (replicate 256 Clear)
       ∙ ap₂ (λ (n w : ℕ). build_from n w (map f xs) (replicate 256 Clear)) (cond-true (fits N W (length xs)) N 0 fit) (cond-true (fits N W (length xs)) W 1 fit)
       ∙ (λ d. record {
         words = N;
@@ -310,9 +310,9 @@ module _ {X : Type 0} (f : X → CellMeaning) (N W : ℕ) (xs : List X) (fit : f
         stuck = λ k. is_stuck (clear_at N k d);
       })
 
-  pub made-state : field_state (map f xs) N W (replicate 256 Clear) 0 ≡ state_from N W (map f xs) [] 0
-  made-state =
-      state-of f N W xs (replicate 256 Clear) 0
+  pub made_state : field_state (map f xs) N W (replicate 256 Clear) 0 ≡ state_from N W (map f xs) [] 0
+  made_state =
+      state_of f N W xs (replicate 256 Clear) 0
       ∙ ap₂ (λ (n w : ℕ). state_from n w (map f xs) (replicate 256 Clear) 0) (cond-true (fits N W (length xs)) N 0 fit) (cond-true (fits N W (length xs)) W 1 fit)
       ∙ (λ d. record {
         held = λ k j. (cell_at N W (map f xs) k j).held;
@@ -322,22 +322,22 @@ module _ {X : Type 0} (f : X → CellMeaning) (N W : ℕ) (xs : List X) (fit : f
 
 -- what planting a stuck mark asks
 module _ {X : Type 0} (f : X → CellMeaning) (N W : ℕ) (xs : List X) (marks : List Mark) (a : ℕ) where
-  pub asks-outside : used_words N W (length xs) ≤ a
+  pub asks_outside : used_words N W (length xs) ≤ a
       → first_no (ask (has_word (field_build (map f xs) N W marks) a) 42 ∷ ask (not ((field_build (map f xs) N W marks).stuck a)) 43 ∷ []) ≡ 42
-  asks-outside past = cond-false (has_word (field_build (map f xs) N W marks) a) _ _ (le-ltb a _ (outside f N W xs a past))
+  asks_outside past = cond-false (has_word (field_build (map f xs) N W marks) a) _ _ (le-ltb a _ (outside f N W xs a past))
 
-  stuck-is : a < used_words N W (length xs) → (b : Bool) → b ≡ is_stuck (get_or marks a Clear) → (field_build (map f xs) N W marks).stuck a ≡ b
-  stuck-is inside b e =
-      ap (λ B. B.stuck a) (build-of f N W xs marks) ∙ ap is_stuck (mark-in (used_words N W (length xs)) 1 marks a inside) ∙ sym e
+  stuck_is : a < used_words N W (length xs) → (b : Bool) → b ≡ is_stuck (get_or marks a Clear) → (field_build (map f xs) N W marks).stuck a ≡ b
+  stuck_is inside b e =
+      ap (λ B. B.stuck a) (build_of f N W xs marks) ∙ ap is_stuck (mark_in (used_words N W (length xs)) 1 marks a inside) ∙ sym e
 
   has_word : a < used_words N W (length xs) → has_word (field_build (map f xs) N W marks) a ≡ true
-  has_word inside = ap (λ B. has_word B a) (build-of f N W xs marks) ∙ lt-ltb a _ inside
+  has_word inside = ap (λ B. has_word B a) (build_of f N W xs marks) ∙ lt-ltb a _ inside
 
-  pub asks-stuck : a < used_words N W (length xs) → (b : Bool) → b ≡ is_stuck (get_or marks a Clear)
+  pub asks_stuck : a < used_words N W (length xs) → (b : Bool) → b ≡ is_stuck (get_or marks a Clear)
       → first_no (ask (has_word (field_build (map f xs) N W marks) a) 42 ∷ ask (not ((field_build (map f xs) N W marks).stuck a)) 43 ∷ []) ≡ cond b 43 0
-  asks-stuck inside b e =
+  asks_stuck inside b e =
       cond-true (has_word (field_build (map f xs) N W marks) a) _ _ (has_word inside)
-      ∙ ap (λ t. cond {A = ℕ} (not t) 0 43) (stuck-is inside b e) ∙ turned b
+      ∙ ap (λ t. cond {A = ℕ} (not t) 0 43) (stuck_is inside b e) ∙ turned b
     where
       turned : (b : Bool) → cond {A = ℕ} (not b) 0 43 ≡ cond b 43 0
       turned true = refl

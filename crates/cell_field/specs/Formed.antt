@@ -34,18 +34,18 @@ narrow true W h = h refl
 narrow false W h = omega arith
 
 module _ {X : Type 0} (f : X → CellMeaning) (steady : (x : X) → SteadyCell (f x)) where
-  each-steady : (xs : List X) (i : ℕ) → SteadyCell (slice_index_or (map f xs) i blank_cell)
-  each-steady [] i = blank_steady
-  each-steady (x ∷ xs) zero = steady x
-  each-steady (x ∷ xs) (suc i) = each-steady xs i
+  each_steady : (xs : List X) (i : ℕ) → SteadyCell (slice_index_or (map f xs) i blank_cell)
+  each_steady [] i = blank_steady
+  each_steady (x ∷ xs) zero = steady x
+  each_steady (x ∷ xs) (suc i) = each_steady xs i
 
-  pub fieldFormed : (xs : List X) (N W : ℕ) (marks : List Mark) (t : ℕ)
+  pub field_formed : (xs : List X) (N W : ℕ) (marks : List Mark) (t : ℕ)
       → WellFormed (field_build (map f xs) N W marks) (field_state (map f xs) N W marks t)
-  fieldFormed xs N W marks t =
+  field_formed xs N W marks t =
       let l = length (map f xs) in
       let n : ℕ = used_words N W l in
       let w : ℕ = used_bits N W l in
-      let cell : (k j : ℕ) → SteadyCell (cell_at n w (map f xs) k j) = λ k j. either_steady (nat_lt k n && nat_lt j w) _ _ (each-steady xs (k * w + j)) blank_steady in
+      let cell : (k j : ℕ) → SteadyCell (cell_at n w (map f xs) k j) = λ k j. either_steady (nat_lt k n && nat_lt j w) _ _ (each_steady xs (k * w + j)) blank_steady in
       record {
         few_words = few (fits N W l) N (λ e. leb-true N 256 (and_parts (nat_le N 256) _ e).0);
         some_bits = some (fits N W l) W (λ e. leb-true 1 W (and_parts (nat_le 1 W) _ (and_parts (nat_le 1 W && nat_le W 64) _ (and_parts (nat_le N 256) _ e).1).0).0);

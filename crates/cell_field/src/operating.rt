@@ -1,7 +1,7 @@
 // The cell field as an array under test.
 ghost use Rattle.std.specs.Prelude.{map};
 ghost use Rattle.cell_field.specs.Field.{field_build, field_state};
-ghost use Rattle.cell_field.specs.Formed.{fieldFormed};
+ghost use Rattle.cell_field.specs.Formed.{field_formed};
 
 use crate::field::{CellField, used_bits, used_words};
 use crate::rows::{any_lent_row_matches, read_lent_row, write_row};
@@ -15,7 +15,7 @@ impl<C: CellKind> CamArray for CellField<'_, C> {
 
     ghost state = { λ f. field_state (map C.CellKind.meaning f.cells.now) f.words f.width f.marks f.tally };
 
-    ghost formed = { λ f. fieldFormed C.CellKind.meaning C.CellKind.steady f.cells.now f.words f.width f.marks f.tally };
+    ghost formed = { λ f. field_formed C.CellKind.meaning C.CellKind.steady f.cells.now f.words f.width f.marks f.tally };
 
     fn words(&self) -> u16 {
         used_words(self.words, self.width, self.cells.len())

@@ -37,14 +37,14 @@ but_at w x p j l e q = q ∙ ap (λ (n : ℕ). all_but n j) (let m : min x 64 �
 module _ (B : Build) (b : Bool) (S : State) (i hits : ℕ) (E : Build) (T : State) (asked : Asked B b S i hits E T)
     (p m : ℕ) (p-is : p ≡ equal_bits B.width b) (m-is : m ≡ all_but B.width i) where
   -- a compare answers what it would have answered before the others
-  pub asked-hit : (r : Bool) → r ≡ hit E p m T → r ≡ hits_at B b S i
-  asked-hit r e =
+  pub asked_hit : (r : Bool) → r ≡ hit E p m T → r ≡ hits_at B b S i
+  asked_hit r e =
       e ∙ ap₂ (λ p m. hit E p m T) p-is m-is ∙ ap (λ E. hit E (equal_bits B.width b) (all_but B.width i) T) asked.stays
       ∙ ap₂ (λ h k. hit B (equal_bits B.width b) (all_but B.width i) (record { held = h; mark = k; tally = T.tally })) asked.bits asked.marks
 
-  pub asked-next : (more : ℕ) (F : Build) (U : State) → F ≡ E → U ≡ counted T → Built (hits_at B b S) more (i + 1)
+  pub asked_next : (more : ℕ) (F : Build) (U : State) → F ≡ E → U ≡ counted T → Built (hits_at B b S) more (i + 1)
       → Asked B b S (i + 1) more F U
-  asked-next more F U f u built =
+  asked_next more F U f u built =
       record {
         stays = f ∙ asked.stays;
         ends = after_up (one B b) i (Compare p m ∷ []) B E S T U (ap₂ (λ p m. Compare p m ∷ []) p-is m-is) asked.stays asked.ends u;

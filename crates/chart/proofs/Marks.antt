@@ -10,16 +10,16 @@ use Rattle.cam.specs.Patterns.{equal_bits, all_but}
 use Rattle.cam.proofs.Below.{split, below_suc}
 use Rattle.cam.proofs.Machine.{kept}
 use Rattle.cam.proofs.Operating.{after_joined}
-use Rattle.cam.proofs.Writes.{wr, wr-mark-other}
+use Rattle.cam.proofs.Writes.{wr, wr_mark_other}
 use Rattle.march.specs.Tests.{word}
 use Rattle.chart.specs.Chart.{on_each_column, writing, word_operations, lowered}
 use Rattle.chart.proofs.Words.{Dark}
 
 -- what compares on single columns leave alone
 module _ (B : Build) (b : Bool) where
-  pub columns-keep : (Q : State → Type 0) → ((T : State) → Q T → Q (counted T)) → (n : ℕ) (S : State)
+  pub columns_keep : (Q : State → Type 0) → ((T : State) → Q T → Q (counted T)) → (n : ℕ) (S : State)
       → Q S → Q (after_all B (upward n (λ j. Compare (equal_bits B.width b) (all_but B.width j) ∷ [])) S)
-  columns-keep Q keep n S q = kept (operated B) (λ o S. 0) n (λ j. Compare (equal_bits B.width b) (all_but B.width j) ∷ []) Q n (le_refl n) (λ k T hk g. keep T g) true S q
+  columns_keep Q keep n S q = kept (operated B) (λ o S. 0) n (λ j. Compare (equal_bits B.width b) (all_but B.width j) ∷ []) Q n (le_refl n) (λ k T hk g. keep T g) true S q
 
 erase_keeps : (B : Build) (k i : ℕ) (S : State) → S.mark i ≡ false → (erased B k S).mark i ≡ false
 erase_keeps B k i S e = go (here B k i) (S.mark i) e
@@ -57,7 +57,7 @@ module _ (B : Build) (a : ℕ) where
   over : (b : Bool) (rest : List Operation) → Leads rest → Leads (on_each_column B.width b ++ rest)
   over b rest l S near =
       let U : List Operation = on_each_column B.width b in
-      subst (Dark B) (sym (after_joined B U rest S)) (l (after_all B U S) (columns-keep B b Near (λ T g. g) B.width S near))
+      subst (Dark B) (sym (after_joined B U rest S)) (l (after_all B U S) (columns_keep B b Near (λ T g. g) B.width S near))
 
   ends : a < B.words → Leads (Erase (word a) ∷ [])
   ends ha S near k hk =
@@ -66,15 +66,15 @@ module _ (B : Build) (a : ℕ) where
       (λ e. erase_keeps B a k S (near k hk (eqb-false k a e)))
 
   -- a visit leaves no word marked
-  pub visit-dark : a < B.words → (S : State) → Dark B S → Dark B (after_all B (word_operations B.width a) S)
-  visit-dark ha S dark =
+  pub visit_dark : a < B.words → (S : State) → Dark B S → Dark B (after_all B (word_operations B.width a) S)
+  visit_dark ha S dark =
       let W : ℕ = B.width in
       let rest : List Operation = on_each_column W true ++ (on_each_column W false ++ (Erase (word a) ∷ [])) in
       let l1 : Leads rest = over true _ (over false _ (ends ha)) in
       let l2 : Leads (writing W a true ∷ Read (word a) ∷ rest) =
-      λ T near. l1 (counted (wr B true a T)) (λ k hk n. wr-mark-other B true a k T n ∙ near k hk n) in
+      λ T near. l1 (counted (wr B true a T)) (λ k hk n. wr_mark_other B true a k T n ∙ near k hk n) in
       over false _ (over true _ l2) (counted (counted (lowered B a S)))
-      (λ k hk n. wr-mark-other B false a k (wr B true a S) n ∙ wr-mark-other B true a k S n ∙ dark k hk)
+      (λ k hk n. wr_mark_other B false a k (wr B true a S) n ∙ wr_mark_other B true a k S n ∙ dark k hk)
 
 pub erasing_dark : (B E : Build) (S T : State) → E ≡ B → T ≡ after_all B (upward B.words wipes) S → Dark E T
 erasing_dark B E S T e t =

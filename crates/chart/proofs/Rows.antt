@@ -15,11 +15,11 @@ use Rattle.chart.specs.Chart.{Row, count_below, sum_below, Charted, word_operati
 use Rattle.chart.proofs.Words.{Dark, one_word, byte_tells}
 use Rattle.cam.proofs.Operating.{after_up, after_joined}
 use Rattle.chart.proofs.Counts.{count_same}
-use Rattle.chart.proofs.Marks.{visit-dark}
+use Rattle.chart.proofs.Marks.{visit_dark}
 
 module _ (r : Answers) (start : ℕ) (old : List ℕ) where
-  pub row-none : Row r start 0 old old
-  row-none = record { cells = λ j l h. absurd (omega arith); earlier = λ i l. refl; later = λ i l. refl; size = refl }
+  pub row_none : Row r start 0 old old
+  row_none = record { cells = λ j l h. absurd (omega arith); earlier = λ i l. refl; later = λ i l. refl; size = refl }
 
   -- the byte of column i is written
   pub row_more : (i b : ℕ) (new : List ℕ) → start + i < length new → b ≡ byte_of r i → Row r start i old new
@@ -36,8 +36,8 @@ module _ (r : Answers) (start : ℕ) (old : List ℕ) where
       }
 
   -- there is no place for it
-  pub row-past : (i : ℕ) (new : List ℕ) → length new ≤ start + i → Row r start i old new → Row r start (i + 1) old new
-  row-past i new past row =
+  pub row_past : (i : ℕ) (new : List ℕ) → length new ≤ start + i → Row r start i old new → Row r start (i + 1) old new
+  row_past i new past row =
       record {
         cells = λ j l h. row.cells j (let s = row.size in omega arith) h;
         earlier = row.earlier;
@@ -105,7 +105,7 @@ drawn_more B E F S T U n start marred w k r old mid new d inside v told u f row 
     record {
       stays = f ∙ d.stays;
       ends = after_up (word_operations W) n (word_operations W n) B B S T U refl refl d.ends u';
-      dark = subst (Dark B) (sym u') (visit-dark B n inside T d.dark);
+      dark = subst (Dark B) (sym u') (visit_dark B n inside T d.dark);
       at = omega (arith, d.at);
       rows = rows_more B n start w r old mid new d.at v bytes d.rows row;
       count = omega (arith, d.count);

@@ -114,11 +114,11 @@ module _ (B0 B1 B2 B3 B4 B5 B6 B7 B8 B9 B10 B11 : Build) (S0 S1 S2 S3 S4 S5 S6 S
   a9 : Alike S9 R
   a9 = alike_then S9 S8 R (hits_alike B8 true S8 o1 B9 S9 h9) a8
 
-  pub visit-answers : (zeros ones p' : ℕ) (seen : Bool)
+  pub visit_answers : (zeros ones p' : ℕ) (seen : Bool)
       → zeros ≡ read_word B2 a S2 → p' ≡ equal_bits B0.width true → seen ≡ hit B3 0 p' S3 → ones ≡ read_word B7 a S7
       → Answered B0 a S0 (record { zeros = zeros; seen = seen; zero0 = z0; zero1 = z1; ones = ones; one1 = o1; one0 = o0 })
   unfolding L R
-  visit-answers zeros ones p' seen zs p'-is sn os =
+  visit_answers zeros ones p' seen zs p'-is sn os =
       record {
         zeros = zs ∙ ap₂ (λ (B : Build) S. read_word B a S) b2 s2;
         seen = sn ∙ ap₂ (λ (B : Build) (p : ℕ). hit B 0 p S3) (e3 ∙ b2) p'-is
@@ -130,9 +130,9 @@ module _ (B0 B1 B2 B3 B4 B5 B6 B7 B8 B9 B10 B11 : Build) (S0 S1 S2 S3 S4 S5 S6 S
         one0 = hits_at B0 B9 B10 false S9 R S10 o0 (h9.stays ∙ b8) a9 h10;
       }
 
-  pub visit-did : Did B0 (word_operations B0.width a) S0 B11 S11
+  pub visit_did : Did B0 (word_operations B0.width a) S0 B11 S11
   unfolding L
-  visit-did =
+  visit_did =
       let first : List Operation = writing B0.width a true ∷ writing B0.width a false ∷ Read (word a) ∷ Compare 0 (equal_bits B0.width true) ∷ [] in
       let d4 : Did B0 first S0 B4 S4 = record { stays = b4; ends = h4 ∙ ap counted (h3 ∙ ap counted s2) } in
       let d5 = did_then B0 B4 B5 first (λ B. on_each_column B.width false) S0 S4 S5 d4 (hits_did B4 false S4 z0 B5 S5 h5) in

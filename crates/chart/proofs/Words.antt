@@ -9,7 +9,7 @@ use Rattle.cam.specs.Patterns.{equal_bits, all_but}
 use Rattle.cam.proofs.Below.{split, some_below, all_true}
 use Rattle.cam.proofs.BitLaws.{bit_ones}
 use Rattle.cam.proofs.Patterns.{bit_but_here, bit_but_other, bit_equal, bit_value, agrees_at}
-use Rattle.cam.proofs.Writes.{wr, wr-here, wr-other, wr-mark-here, wr-mark-other}
+use Rattle.cam.proofs.Writes.{wr, wr_here, wr_other, wr_mark_here, wr_mark_other}
 use Rattle.march.proofs.Masking.{only_one, all_fails}
 use Rattle.chart.specs.declared.answers.Answers.{Answers}
 use Rattle.chart.specs.Bytes.{low, high, byte_from, chart_byte, byte_of}
@@ -60,40 +60,40 @@ module _ (B : Build) (a : ℕ) (ha : a < B.words) where
       (S.mark a ≡ not (B.stuck a)) × ((k : ℕ) → k < B.words → (k ≡ a → ⊥) → S.mark k ≡ false)
       × ((j : ℕ) → j < B.width → S.held a j ≡ f j)
 
-  low-alone : (S : State) → Dark B S → Alone (λ j. high (B.storage a j)) (lowered B a S)
-  low-alone S dark =
+  low_alone : (S : State) → Dark B S → Alone (λ j. high (B.storage a j)) (lowered B a S)
+  low_alone S dark =
       let T : State = wr B true a S in (
-        wr-mark-here B false a T ha
-            ∙ ap (λ x. cond (B.stuck a) x true) (wr-mark-here B true a S ha)
+        wr_mark_here B false a T ha
+            ∙ ap (λ x. cond (B.stuck a) x true) (wr_mark_here B true a S ha)
             ∙ ap (λ x. cond (B.stuck a) (cond (B.stuck a) x true) true) (dark a ha) ∙ go (B.stuck a),
-        λ k hk n. wr-mark-other B false a k T n ∙ wr-mark-other B true a k S n ∙ dark k hk,
-        λ j hj. wr-here B false a j T ha hj ∙ ap (λ x. put (B.storage a j) x false) (wr-here B true a j S ha hj) ∙ lows (B.storage a j) (S.held a j),
+        λ k hk n. wr_mark_other B false a k T n ∙ wr_mark_other B true a k S n ∙ dark k hk,
+        λ j hj. wr_here B false a j T ha hj ∙ ap (λ x. put (B.storage a j) x false) (wr_here B true a j S ha hj) ∙ lows (B.storage a j) (S.held a j),
       )
     where
       go : (s : Bool) → cond s (cond s false true) true ≡ not s
       go true = refl
       go false = refl
 
-  high-alone : (S : State) → Dark B S → Alone (λ j. not (low (B.storage a j))) (raised B a S)
-  high-alone S dark =
+  high_alone : (S : State) → Dark B S → Alone (λ j. not (low (B.storage a j))) (raised B a S)
+  high_alone S dark =
       let T : State = lowered B a S in
-      let l = low-alone S dark in (
-        wr-mark-here B true a T ha ∙ ap (λ x. cond (B.stuck a) x true) l.0 ∙ go (B.stuck a),
-        λ k hk n. wr-mark-other B true a k T n ∙ l.1 k hk n,
-        λ j hj. wr-here B true a j T ha hj ∙ ap (λ x. put (B.storage a j) x true) (l.2 j hj) ∙ highs (B.storage a j),
+      let l = low_alone S dark in (
+        wr_mark_here B true a T ha ∙ ap (λ x. cond (B.stuck a) x true) l.0 ∙ go (B.stuck a),
+        λ k hk n. wr_mark_other B true a k T n ∙ l.1 k hk n,
+        λ j hj. wr_here B true a j T ha hj ∙ ap (λ x. put (B.storage a j) x true) (l.2 j hj) ∙ highs (B.storage a j),
       )
     where
       go : (s : Bool) → cond s (not s) true ≡ not s
       go true = refl
       go false = refl
 
-  read-bit : (f : ℕ → Bool) (S : State) → Alone f S → (j : ℕ) → j < B.width → bit (read_word B a S) j ≡ f j
-  read-bit f S l j hj =
+  read_bit : (f : ℕ → Bool) (S : State) → Alone f S → (j : ℕ) → j < B.width → bit (read_word B a S) j ≡ f j
+  read_bit f S l j hj =
       ap (λ x. bit x j) (cond-true (ltb a B.words) (value B.width (S.held a)) 0 (lt-ltb a B.words ha))
       ∙ bit_value B.width (S.held a) j hj ∙ l.2 j hj
 
-  seen-is : (f : ℕ → Bool) (S : State) → Alone f S → hit B 0 (equal_bits B.width true) S ≡ not (B.stuck a)
-  seen-is f S l =
+  seen_is : (f : ℕ → Bool) (S : State) → Alone f S → hit B 0 (equal_bits B.width true) S ≡ not (B.stuck a)
+  seen_is f S l =
       any_own B.words a (matches B 0 (equal_bits B.width true) S) ha (λ k hk n. and_left (S.mark k) _ (l.1 k hk n))
       ∙ ap (λ x. S.mark a && x) (all_true B.width _ (λ j hj. or_left (bit (equal_bits B.width true) j) _ (bit_ones B.width j hj)))
       ∙ and_one (S.mark a) ∙ l.0
@@ -102,9 +102,9 @@ module _ (B : Build) (a : ℕ) (ha : a < B.words) where
       and_one true = refl
       and_one false = refl
 
-  column-is : (f : ℕ → Bool) (S : State) → Alone f S → (c : Bool) (j : ℕ) → j < B.width
+  column_is : (f : ℕ → Bool) (S : State) → Alone f S → (c : Bool) (j : ℕ) → j < B.width
       → hit B (equal_bits B.width c) (all_but B.width j) S ≡ (not (B.stuck a) && agrees (B.wrong a j) (f j) c)
-  column-is f S l c j hj =
+  column_is f S l c j hj =
       let p : ℕ = equal_bits B.width c in
       let m : ℕ = all_but B.width j in
       any_own B.words a (matches B p m S) ha (λ k hk n. and_left (S.mark k) _ (l.1 k hk n))
@@ -161,15 +161,15 @@ one_word B a j S r ha hj dark told =
     let w : Bool → Bool → Bool = B.wrong a j in
     let fl : ℕ → Bool = λ i. high (B.storage a i) in
     let fh : ℕ → Bool = λ i. not (low (B.storage a i)) in
-    let al = low-alone B a ha S dark in
-    let ah = high-alone B a ha S dark in
-    let z : bit r.zeros j ≡ H = ap (λ (n : ℕ). bit n j) told.zeros ∙ read-bit B a ha fl (lowered B a S) al j hj in
-    let o : bit r.ones j ≡ not L = ap (λ (n : ℕ). bit n j) told.ones ∙ read-bit B a ha fh (raised B a S) ah j hj in
-    let k : r.seen ≡ not K = told.seen ∙ seen-is B a ha fl (lowered B a S) al in
-    let z0 : bit r.zero0 j ≡ (not K && agrees w H false) = told.zero0 j hj ∙ column-is B a ha fl (lowered B a S) al false j hj in
-    let z1 : bit r.zero1 j ≡ (not K && agrees w H true) = told.zero1 j hj ∙ column-is B a ha fl (lowered B a S) al true j hj in
-    let o1 : bit r.one1 j ≡ (not K && agrees w (not L) true) = told.one1 j hj ∙ column-is B a ha fh (raised B a S) ah true j hj in
-    let o0 : bit r.one0 j ≡ (not K && agrees w (not L) false) = told.one0 j hj ∙ column-is B a ha fh (raised B a S) ah false j hj in
+    let al = low_alone B a ha S dark in
+    let ah = high_alone B a ha S dark in
+    let z : bit r.zeros j ≡ H = ap (λ (n : ℕ). bit n j) told.zeros ∙ read_bit B a ha fl (lowered B a S) al j hj in
+    let o : bit r.ones j ≡ not L = ap (λ (n : ℕ). bit n j) told.ones ∙ read_bit B a ha fh (raised B a S) ah j hj in
+    let k : r.seen ≡ not K = told.seen ∙ seen_is B a ha fl (lowered B a S) al in
+    let z0 : bit r.zero0 j ≡ (not K && agrees w H false) = told.zero0 j hj ∙ column_is B a ha fl (lowered B a S) al false j hj in
+    let z1 : bit r.zero1 j ≡ (not K && agrees w H true) = told.zero1 j hj ∙ column_is B a ha fl (lowered B a S) al true j hj in
+    let o1 : bit r.one1 j ≡ (not K && agrees w (not L) true) = told.one1 j hj ∙ column_is B a ha fh (raised B a S) ah true j hj in
+    let o0 : bit r.one0 j ≡ (not K && agrees w (not L) false) = told.one0 j hj ∙ column_is B a ha fh (raised B a S) ah false j hj in
     (λ i. byte_from (k i && (not (z i) && not (z0 i))) (not (z i) && z1 i) (k i && (o i && not (o1 i))) (o i && o0 i) (not (o i)) (not (not (z i))) (not (k i)))
     ∙ (λ i. byte_from (part1 K H w i) (part2 K H w i) (part3 K L w i) (part4 K L w i) (not_not L i) (not_not H i) (not_not K i))
 

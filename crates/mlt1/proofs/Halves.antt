@@ -10,7 +10,7 @@ use Rattle.cam.specs.Defects.{Sound}
 use Rattle.cam.specs.Patterns.{equal_bits, all_but}
 use Rattle.cam.proofs.Below.{split, none_below, any_none, some_below, all_true, each_below}
 use Rattle.cam.proofs.BitLaws.{bit_zero}
-use Rattle.cam.proofs.Writes.{wr, wr-here, wr-other, wr-mark-here, wr-mark-other}
+use Rattle.cam.proofs.Writes.{wr, wr_here, wr_other, wr_mark_here, wr_mark_other}
 use Rattle.cam.proofs.Patterns.{bit_but_here, bit_but_other, bit_equal, value_equal, equal_value, agrees_at}
 use Rattle.march.specs.declared.step.Step.{Step}
 use Rattle.march.specs.declared.element.TestOperation.TheVariants.{Write, Read, Compare}
@@ -56,17 +56,17 @@ takes_good NoRise t f = absurd t
 takes_good NoFall t f = absurd f
 
 module _ (w : Bool → Bool → Bool) (h c : Bool) where
-  differ-right : beq h c ≡ false → w h c ≡ false → agrees w h c ≡ false
-  differ-right d e = cond-false (w h c) (not (beq h c)) (beq h c) e ∙ d
+  differ_right : beq h c ≡ false → w h c ≡ false → agrees w h c ≡ false
+  differ_right d e = cond-false (w h c) (not (beq h c)) (beq h c) e ∙ d
 
-  differ-wrong : beq h c ≡ false → w h c ≡ true → agrees w h c ≡ true
-  differ-wrong d e = cond-true (w h c) (not (beq h c)) (beq h c) e ∙ ap not d
+  differ_wrong : beq h c ≡ false → w h c ≡ true → agrees w h c ≡ true
+  differ_wrong d e = cond-true (w h c) (not (beq h c)) (beq h c) e ∙ ap not d
 
-  equal-right : beq h c ≡ true → w h c ≡ false → agrees w h c ≡ true
-  equal-right d e = cond-false (w h c) (not (beq h c)) (beq h c) e ∙ d
+  equal_right : beq h c ≡ true → w h c ≡ false → agrees w h c ≡ true
+  equal_right d e = cond-false (w h c) (not (beq h c)) (beq h c) e ∙ d
 
-  equal-needs : beq h c ≡ true → agrees w h c ≡ true → w h c ≡ false
-  equal-needs d a =
+  equal_needs : beq h c ≡ true → agrees w h c ≡ true → w h c ≡ false
+  equal_needs d a =
       split (w h c) (λ e. absurd (both_ways (agrees w h c) (cond-true (w h c) (not (beq h c)) (beq h c) e ∙ ap not d) a)) (λ e. e)
 
 beq_refl : (b : Bool) → beq b b ≡ true
@@ -131,8 +131,8 @@ module _ (B : Build) where
   is_free : (b : Bool) (k : ℕ) (S : State) → Is b k S → Free k S
   is_free b k S i e = i.0 ∙ ap not e
 
-  pub wr-free : (b : Bool) (a k : ℕ) (S : State) → Free k S → Free k (wr B b a S)
-  wr-free b a k S f e = go (here B a k) (B.stuck k) (S.mark k) e ∙ f e
+  pub wr_free : (b : Bool) (a k : ℕ) (S : State) → Free k S → Free k (wr B b a S)
+  wr_free b a k S f e = go (here B a k) (B.stuck k) (S.mark k) e ∙ f e
     where
       go : (t s m : Bool) → s ≡ true → cond t (cond s m true) m ≡ m
       go true s m q = cond-true s m true q
@@ -143,47 +143,47 @@ module _ (B : Build) where
   abbrev pub Shows : Bool → ℕ → State → Type 0
   Shows b k S = (j : ℕ) → j < B.width → S.held k j ≡ b → Takes b (B.storage k j)
 
-  turn-shows : (b : Bool) (k : ℕ) (S : State) → k < B.words → Shows b k (after B (turn b k) S)
-  turn-shows b k S hk j hj e =
+  turn_shows : (b : Bool) (k : ℕ) (S : State) → k < B.words → Shows b k (after B (turn b k) S)
+  turn_shows b k S hk j hj e =
       let T : State = wr B (not b) k S in
       cycled (B.storage k j) b (S.held k j)
-      (ap (λ x. put (B.storage k j) x b) (sym (wr-here B (not b) k j S hk hj)) ∙ sym (wr-here B b k j T hk hj) ∙ e)
+      (ap (λ x. put (B.storage k j) x b) (sym (wr_here B (not b) k j S hk hj)) ∙ sym (wr_here B b k j T hk hj) ∙ e)
 
-  shows-other : (b c : Bool) (a k : ℕ) (S : State) → (k ≡ a → ⊥) → Shows b k S → Shows b k (wr B c a S)
-  shows-other b c a k S n s j hj e = s j hj (sym (wr-other B c a k j S n) ∙ e)
+  shows_other : (b c : Bool) (a k : ℕ) (S : State) → (k ≡ a → ⊥) → Shows b k S → Shows b k (wr B c a S)
+  shows_other b c a k S n s j hj e = s j hj (sym (wr_other B c a k j S n) ∙ e)
 
-  turn-keeps : (b : Bool) (k i : ℕ) (S : State) → k < B.words → i < B.words → Shows b i S → Shows b i (after B (turn b k) S)
-  turn-keeps b k i S hk hi s =
-      split (eqb i k) (λ e. let P : ℕ → Type 0 = λ x. Shows b x (after B (turn b k) S) in subst P (sym (eqb-true i k e)) (turn-shows b k S hk))
-      (λ e. let n : i ≡ k → ⊥ = eqb-false i k e in shows-other b b k i (wr B (not b) k S) n (shows-other b (not b) k i S n s))
+  turn_keeps : (b : Bool) (k i : ℕ) (S : State) → k < B.words → i < B.words → Shows b i S → Shows b i (after B (turn b k) S)
+  turn_keeps b k i S hk hi s =
+      split (eqb i k) (λ e. let P : ℕ → Type 0 = λ x. Shows b x (after B (turn b k) S) in subst P (sym (eqb-true i k e)) (turn_shows b k S hk))
+      (λ e. let n : i ≡ k → ⊥ = eqb-false i k e in shows_other b b k i (wr B (not b) k S) n (shows_other b (not b) k i S n s))
 
-  read-shows : (b : Bool) (k : ℕ) (S : State) → k < B.words → misses B (look b k) S ≡ 0 → (j : ℕ) → j < B.width → S.held k j ≡ b
-  read-shows b k S hk h =
+  read_shows : (b : Bool) (k : ℕ) (S : State) → k < B.words → misses B (look b k) S ≡ 0 → (j : ℕ) → j < B.width → S.held k j ≡ b
+  read_shows b k S hk h =
       equal_value B.width (S.held k) b
       (sym (cond-true (ltb k B.words) (value B.width (S.held k)) 0 (lt-ltb k B.words hk)) ∙ value_was (read_word B k S) (equal_bits B.width b) _ h)
 
-  abbrev All-take : Bool → Type 0
-  All-take b = (k : ℕ) → k < B.words → (j : ℕ) → j < B.width → Takes b (B.storage k j)
+  abbrev AllTake : Bool → Type 0
+  AllTake b = (k : ℕ) → k < B.words → (j : ℕ) → j < B.width → Takes b (B.storage k j)
 
-  look-takes : (b dir : Bool) (S : State) → ((k : ℕ) → k < B.words → Shows b k S) → misses B (sweep dir B.words (look b)) S ≡ 0 → All-take b
-  look-takes b dir S s h =
+  look_takes : (b dir : Bool) (S : State) → ((k : ℕ) → k < B.words → Shows b k S) → misses B (sweep dir B.words (look b)) S ≡ 0 → AllTake b
+  look_takes b dir S s h =
       (gather B B.words (look b) (λ T. (k : ℕ) → k < B.words → Shows b k T) (λ k T. (j : ℕ) → j < B.width → Takes b (B.storage k j))
       visit (λ k i T hk hi q. q) dir B.words (le_refl B.words) S s h).1
     where
       visit : (k : ℕ) (T : State) → k < B.words → ((i : ℕ) → i < B.words → Shows b i T) → misses B (look b k) T ≡ 0
           → ((i : ℕ) → i < B.words → Shows b i (after B (look b k) T)) × ((j : ℕ) → j < B.width → Takes b (B.storage k j))
       visit k T hk s h =
-          let t : (j : ℕ) → j < B.width → Takes b (B.storage k j) = λ j hj. s k hk j hj (read-shows b k T hk h j hj) in (
+          let t : (j : ℕ) → j < B.width → Takes b (B.storage k j) = λ j hj. s k hk j hj (read_shows b k T hk h j hj) in (
             λ i hi. split (eqb i k)
                 (λ e j hj _. let P : ℕ → Type 0 = λ x. Takes b (B.storage x j) in subst P (sym (eqb-true i k e)) (t j hj))
-                (λ e. shows-other b (not b) k i T (eqb-false i k e) (s i hi)),
+                (λ e. shows_other b (not b) k i T (eqb-false i k e) (s i hi)),
             t,
           )
 
   -- half a test, from any state, shows that each storage takes b
-  pub half-takes : (dir b : Bool) (rest : List Step) (S : State) → misses B (half dir b rest) S ≡ 0
-      → All-take b × ((T : State) × (misses B rest T ≡ 0))
-  half-takes dir b rest S h =
+  pub half_takes : (dir b : Bool) (rest : List Step) (S : State) → misses B (half dir b rest) S ≡ 0
+      → AllTake b × ((T : State) × (misses B rest T ≡ 0))
+  half_takes dir b rest S h =
       let E2 : List Step = sweep dir B.words (turn b) in
       let E3 : List Step = sweep dir B.words (look b) in
       let E4 : List Step = upward B.width (column b) in
@@ -192,43 +192,43 @@ module _ (B : Build) where
       let h3 : misses B (E3 ++ (E4 ++ rest)) S2 ≡ 0 = then_passes B E2 (E3 ++ (E4 ++ rest)) S h in
       let S3 : State = after B E3 S2 in
       let h4 : misses B (E4 ++ rest) S3 ≡ 0 = then_passes B E3 (E4 ++ rest) S2 h3 in
-      let g = gather B B.words (turn b) (λ T. Unit {0}) (Shows b) (λ k T hk u m. (tt, turn-shows b k T hk)) (turn-keeps b) dir B.words (le_refl B.words) S tt h2 in
-      (look-takes b dir S2 g.1 (first_passes B E3 (E4 ++ rest) S2 h3), (after B E4 S3, then_passes B E4 rest S3 h4))
+      let g = gather B B.words (turn b) (λ T. Unit {0}) (Shows b) (λ k T hk u m. (tt, turn_shows b k T hk)) (turn_keeps b) dir B.words (le_refl B.words) S tt h2 in
+      (look_takes b dir S2 g.1 (first_passes B E3 (E4 ++ rest) S2 h3), (after B E4 S3, then_passes B E4 rest S3 h4))
 
   -- from here on each storage is good
 
-  abbrev pub All-good : Type 0
-  All-good = (k j : ℕ) → k < B.words → j < B.width → B.storage k j ≡ Good
+  abbrev pub AllGood : Type 0
+  AllGood = (k j : ℕ) → k < B.words → j < B.width → B.storage k j ≡ Good
 
-  pub wr-is : All-good → (b : Bool) (k : ℕ) (S : State) → k < B.words → Free k S → Is b k (wr B b k S)
-  wr-is good b k S hk f = (
-    wr-mark-here B b k S hk
+  pub wr_is : AllGood → (b : Bool) (k : ℕ) (S : State) → k < B.words → Free k S → Is b k (wr B b k S)
+  wr_is good b k S hk f = (
+    wr_mark_here B b k S hk
         ∙ split (B.stuck k) (λ e. cond-true (B.stuck k) (S.mark k) true e ∙ f e ∙ sym (ap not e))
         (λ e. cond-false (B.stuck k) (S.mark k) true e ∙ sym (ap not e)),
-    λ j hj. wr-here B b k j S hk hj ∙ ap (λ s. put s (S.held k j) b) (good k j hk hj),
+    λ j hj. wr_here B b k j S hk hj ∙ ap (λ s. put s (S.held k j) b) (good k j hk hj),
   )
 
-  pub is-other : (b c : Bool) (a k : ℕ) (S : State) → (k ≡ a → ⊥) → Is b k S → Is b k (wr B c a S)
-  is-other b c a k S n i = (wr-mark-other B c a k S n ∙ i.0, λ j hj. wr-other B c a k j S n ∙ i.1 j hj)
+  pub is_other : (b c : Bool) (a k : ℕ) (S : State) → (k ≡ a → ⊥) → Is b k S → Is b k (wr B c a S)
+  is_other b c a k S n i = (wr_mark_other B c a k S n ∙ i.0, λ j hj. wr_other B c a k j S n ∙ i.1 j hj)
 
   -- a write of b anywhere leaves a word that held b as it is
-  pub is-kept : All-good → (b : Bool) (a k : ℕ) (S : State) → a < B.words → Is b k S → Is b k (wr B b a S)
-  is-kept good b a k S ha i =
+  pub is_kept : AllGood → (b : Bool) (a k : ℕ) (S : State) → a < B.words → Is b k S → Is b k (wr B b a S)
+  is_kept good b a k S ha i =
       split (eqb k a)
       (λ e. let q : k ≡ a = eqb-true k a e in
       let P : ℕ → Type 0 = λ x. Is b x (wr B b a S) in
       let F : ℕ → Type 0 = λ x. Free x S in
-      subst P (sym q) (wr-is good b a S ha (subst F q (is_free b k S i))))
-      (λ e. is-other b b a k S (eqb-false k a e) i)
+      subst P (sym q) (wr_is good b a S ha (subst F q (is_free b k S i))))
+      (λ e. is_other b b a k S (eqb-false k a e) i)
 
-  turn_is : All-good → (b : Bool) (k i : ℕ) (S : State) → k < B.words → Is b i S → Is b i (after B (turn b k) S)
+  turn_is : AllGood → (b : Bool) (k i : ℕ) (S : State) → k < B.words → Is b i S → Is b i (after B (turn b k) S)
   turn_is good b k i S hk is =
       split (eqb i k)
       (λ e. let q : i ≡ k = eqb-true i k e in
       let P : ℕ → Type 0 = λ x. Is b x (after B (turn b k) S) in
       let F : ℕ → Type 0 = λ x. Free x S in
-      subst P (sym q) (wr-is good b k (wr B (not b) k S) hk (wr-free (not b) k k S (subst F q (is_free b i S is)))))
-      (λ e. let n : i ≡ k → ⊥ = eqb-false i k e in is-other b b k i (wr B (not b) k S) n (is-other b (not b) k i S n is))
+      subst P (sym q) (wr_is good b k (wr B (not b) k S) hk (wr_free (not b) k k S (subst F q (is_free b i S is)))))
+      (λ e. let n : i ≡ k → ⊥ = eqb-false i k e in is_other b b k i (wr B (not b) k S) n (is_other b (not b) k i S n is))
 
   -- the pair of h held and c compared is in no wrong set of a word whose mark can be set
   abbrev pub Clear : Bool → Bool → Type 0
@@ -246,39 +246,39 @@ module _ (B : Build) where
       (all_fails B.width (λ i. bit m i || agrees (B.wrong k i) (S.held k i) (bit (equal_bits B.width c) i)) j hj
       (or_from (bit m j) _ u
       (agrees_at (B.wrong k j) (S.held k j) (bit (equal_bits B.width c) j) b c (is.1 j hj) (bit_equal B.width c j hj)
-      ∙ differ-right (B.wrong k j) b c d (cl e)))))
+      ∙ differ_right (B.wrong k j) b c d (cl e)))))
 
   -- A turn at word k that hits. Every other word holds b, and no marked word answers b held as a match of the other
   -- bit: so the hit is word k's own, its mark can be set, and its cells answer the pair of equal bits rightly.
-  turn-right : All-good → 0 < B.width → (b : Bool) (k : ℕ) (S : State) → k < B.words → Uniform b S → misses B (turn b k) S ≡ 0
+  turn_right : AllGood → 0 < B.width → (b : Bool) (k : ℕ) (S : State) → k < B.words → Uniform b S → misses B (turn b k) S ≡ 0
       → Clear b (not b) → Right (not b) k
-  turn-right good w1 b k S hk u h cl =
+  turn_right good w1 b k S hk u h cl =
       let T : State = wr B (not b) k S in
-      let is : Is (not b) k T = wr-is good (not b) k S hk (is_free b k S (u k hk)) in
+      let is : Is (not b) k T = wr_is good (not b) k S hk (is_free b k S (u k hk)) in
       let p : ℕ = equal_bits B.width (not b) in
       let some : hit B p 0 T ≡ true = hit_was (hit B p 0 T) true (0 + 0) (omega arith) in
       let answer : ℕ → ℕ → Bool → Bool = λ i j held. bit 0 j || agrees (B.wrong i j) held (bit p j) in
       let marks : (i : ℕ) → i < B.words → T.mark i ≡ not (B.stuck i) =
       λ i hi. split (eqb i k)
       (λ e. let P : ℕ → Type 0 = λ x. T.mark x ≡ not (B.stuck x) in subst P (sym (eqb-true i k e)) is.0)
-      (λ e. (is-other b (not b) k i S (eqb-false i k e) (u i hi)).0) in
+      (λ e. (is_other b (not b) k i S (eqb-false i k e) (u i hi)).0) in
       let own =
       no_stand_in Bool B.words B.width k 0 b T.mark T.held answer w1
-      (λ i hi n. (is-other b (not b) k i S n (u i hi)).1 0 w1)
+      (λ i hi n. (is_other b (not b) k i S n (u i hi)).1 0 w1)
       (λ i hi m. or_from (bit 0 0) _ (bit_zero 0)
       (agrees_at (B.wrong i 0) b (bit p 0) b (not b) refl (bit_equal B.width (not b) 0 w1)
-      ∙ differ-right (B.wrong i 0) b (not b) (beq_not b) (cl i hi (not-true (B.stuck i) (sym (marks i hi) ∙ m)) 0 w1)))
+      ∙ differ_right (B.wrong i 0) b (not b) (beq_not b) (cl i hi (not-true (B.stuck i) (sym (marks i hi) ∙ m)) 0 w1)))
       some in (
         not-true (B.stuck k) (sym is.0 ∙ own.0),
-        λ j hj. equal-needs (B.wrong k j) (not b) (not b) (beq_refl (not b))
+        λ j hj. equal_needs (B.wrong k j) (not b) (not b) (beq_refl (not b))
             (sym (agrees_at (B.wrong k j) (T.held k j) (bit p j) (not b) (not b) (is.1 j hj) (bit_equal B.width (not b) j hj))
             ∙ or_last (bit 0 j) _ (bit_zero j) (own.1 j hj)),
       )
 
   -- a column's compare that hits nothing
-  column-clear : (b : Bool) (j : ℕ) (S : State) → j < B.width → Uniform (not b) S → misses B (column b j) S ≡ 0
+  column_clear : (b : Bool) (j : ℕ) (S : State) → j < B.width → Uniform (not b) S → misses B (column b j) S ≡ 0
       → (k : ℕ) → k < B.words → B.stuck k ≡ false → B.wrong k j (not b) b ≡ false
-  column-clear b j S hj u h k hk e =
+  column_clear b j S hj u h k hk e =
       let p : ℕ = equal_bits B.width b in
       let m : ℕ = all_but B.width j in
       let none : hit B p m S ≡ false = hit_was (hit B p m S) false 0 h in
@@ -292,25 +292,25 @@ module _ (B : Build) where
       subst P (sym (eqb-true i j q))
       (or_right (bit m j) _
       (agrees_at (B.wrong k j) (S.held k j) (bit p j) (not b) b ((u k hk).1 j hj) (bit_equal B.width b j hj)
-      ∙ differ-wrong (B.wrong k j) (not b) b (not_beq b) t)))
+      ∙ differ_wrong (B.wrong k j) (not b) b (not_beq b) t)))
       (λ q. or_left (bit m i) _ (bit_but_other B.width j i hj hi (eqb-false i j q))))))))
       (λ t. t)
 
   -- a sweep that ends each visit with a write of c leaves c everywhere
-  look-uniform : All-good → (b dir : Bool) (S : State) → Uniform b S → misses B (sweep dir B.words (look b)) S ≡ 0
+  look_uniform : AllGood → (b dir : Bool) (S : State) → Uniform b S → misses B (sweep dir B.words (look b)) S ≡ 0
       → Uniform (not b) (after B (sweep dir B.words (look b)) S)
-  look-uniform good b dir S u h =
+  look_uniform good b dir S u h =
       (gather B B.words (look b) (λ T. (k : ℕ) → k < B.words → Free k T) (Is (not b))
-      (λ k T hk f m. (λ i hi. wr-free (not b) k i T (f i hi), wr-is good (not b) k T hk (f k hk)))
-      (λ k i T hk hi q. is-kept good (not b) k i T hk q)
+      (λ k T hk f m. (λ i hi. wr_free (not b) k i T (f i hi), wr_is good (not b) k T hk (f k hk)))
+      (λ k i T hk hi q. is_kept good (not b) k i T hk q)
       dir B.words (le_refl B.words) S (λ k hk. is_free b k S (u k hk)) h).1
 
-  columns-keep : (b c : Bool) (S : State) → Uniform c S → Uniform c (after B (upward B.width (column b)) S)
-  columns-keep b c S u = kept B B.width (column b) (Uniform c) B.width (le_refl B.width) (λ k T hk q. q) true S u
+  columns_keep : (b c : Bool) (S : State) → Uniform c S → Uniform c (after B (upward B.width (column b)) S)
+  columns_keep b c S u = kept B B.width (column b) (Uniform c) B.width (le_refl B.width) (λ k T hk q. q) true S u
 
-  pub half-shows : All-good → 0 < B.width → (dir b : Bool) (rest : List Step) (S : State) → Uniform b S → misses B (half dir b rest) S ≡ 0
+  pub half_shows : AllGood → 0 < B.width → (dir b : Bool) (rest : List Step) (S : State) → Uniform b S → misses B (half dir b rest) S ≡ 0
       → (Clear b (not b) → (k : ℕ) → k < B.words → Right (not b) k) × Clear (not b) b × ((T : State) × Uniform (not b) T × (misses B rest T ≡ 0))
-  half-shows good w1 dir b rest S u h =
+  half_shows good w1 dir b rest S u h =
       let E2 : List Step = sweep dir B.words (turn b) in
       let E3 : List Step = sweep dir B.words (look b) in
       let E4 : List Step = upward B.width (column b) in
@@ -320,12 +320,12 @@ module _ (B : Build) where
       let S3 : State = after B E3 S2 in
       let h4 : misses B (E4 ++ rest) S3 ≡ 0 = then_passes B E3 (E4 ++ rest) S2 h3 in
       let g2 = gather B B.words (turn b) (Uniform b) (λ k T. Clear b (not b) → Right (not b) k)
-      (λ k T hk v m. (λ i hi. turn_is good b k i T hk (v i hi), turn-right good w1 b k T hk v m))
+      (λ k T hk v m. (λ i hi. turn_is good b k i T hk (v i hi), turn_right good w1 b k T hk v m))
       (λ k i T hk hi q. q) dir B.words (le_refl B.words) S u h2 in
-      let u3 : Uniform (not b) S3 = look-uniform good b dir S2 g2.0 (first_passes B E3 (E4 ++ rest) S2 h3) in
+      let u3 : Uniform (not b) S3 = look_uniform good b dir S2 g2.0 (first_passes B E3 (E4 ++ rest) S2 h3) in
       let g4 = gather B B.width (column b) (Uniform (not b))
       (λ j T. (k : ℕ) → k < B.words → B.stuck k ≡ false → B.wrong k j (not b) b ≡ false)
-      (λ j T hj v m. (v, column-clear b j T hj v m)) (λ k i T hk hi q. q) true B.width (le_refl B.width) S3 u3
+      (λ j T hj v m. (v, column_clear b j T hj v m)) (λ k i T hk hi q. q) true B.width (le_refl B.width) S3 u3
       (first_passes B E4 rest S3 h4) in
       (λ cl k hk. g2.1 k hk cl, λ k hk e j hj. g4.1 j hj k hk e, (after B E4 S3, g4.0, then_passes B E4 rest S3 h4))
 
@@ -335,13 +335,13 @@ module _ (B : Build) where
     turn-passes : (b : Bool) (k : ℕ) (S : State) → k < B.words → Is b k S → misses B (turn b k) S ≡ 0
     turn-passes b k S hk is =
         let T : State = wr B (not b) k S in
-        let it : Is (not b) k T = wr-is sound.good (not b) k S hk (is_free b k S is) in
+        let it : Is (not b) k T = wr_is sound.good (not b) k S hk (is_free b k S is) in
         let p : ℕ = equal_bits B.width (not b) in
         let all : all_below B.width (λ i. bit 0 i || agrees (B.wrong k i) (T.held k i) (bit p i)) ≡ true =
         all_true B.width (λ i. bit 0 i || agrees (B.wrong k i) (T.held k i) (bit p i))
         (λ j hj. or_right (bit 0 j) _
         (agrees_at (B.wrong k j) (T.held k j) (bit p j) (not b) (not b) (it.1 j hj) (bit_equal B.width (not b) j hj)
-        ∙ equal-right (B.wrong k j) (not b) (not b) (beq_refl (not b)) (sound.right k j hk hj (not b) (not b)))) in
+        ∙ equal_right (B.wrong k j) (not b) (not b) (beq_refl (not b)) (sound.right k j hk hj (not b) (not b)))) in
         let yes-hit : hit B p 0 T ≡ true =
         some_below B.words (matches B p 0 T) k hk (and_from (T.mark k) _ (it.0 ∙ ap not (sound.free k hk)) all) in
         let z : ◌≡◌ {A = ℕ} (cond (not (beq (hit B p 0 T) true)) 1 0) 0 = hit_passes (hit B p 0 T) true yes-hit in
@@ -377,9 +377,9 @@ module _ (B : Build) where
         let u2 : Uniform b S2 =
         kept B B.words (turn b) (Uniform b) B.words (le_refl B.words) (λ k T hk v i hi. turn_is sound.good b k i T hk (v i hi)) dir S u in
         let h3 : misses B E3 S2 ≡ 0 =
-        passes B B.words (look b) (Is b) (look-passes b) (λ k i T hk hi n q. is-other b (not b) k i T n q) dir B.words (le_refl B.words) S2 u2 in
-        let u3 : Uniform (not b) S3 = look-uniform sound.good b dir S2 u2 h3 in
+        passes B B.words (look b) (Is b) (look-passes b) (λ k i T hk hi n q. is_other b (not b) k i T n q) dir B.words (le_refl B.words) S2 u2 in
+        let u3 : Uniform (not b) S3 = look_uniform sound.good b dir S2 u2 h3 in
         let h4 : misses B E4 S3 ≡ 0 =
         passes B B.width (column b) (λ j T. Uniform (not b) T) (column-passes b) (λ k i T hk hi n q. q) true B.width (le_refl B.width) S3 (λ i hi. u3) in
         both_pass B E2 (E3 ++ (E4 ++ rest)) S h2
-        (both_pass B E3 (E4 ++ rest) S2 h3 (both_pass B E4 rest S3 h4 (go (after B E4 S3) (columns-keep b (not b) S3 u3))))
+        (both_pass B E3 (E4 ++ rest) S2 h3 (both_pass B E4 rest S3 h4 (go (after B E4 S3) (columns_keep b (not b) S3 u3))))

@@ -62,8 +62,8 @@ module _ (N W : ℕ) (e : Element) (v o : ℕ) where
       (λ t. absurd (true≢false (ap is_some (q ∙ cond-false (ltb v (visits N W e)) _ _ t))))
 
   -- a step is there: it is the first that is left, and the next operation comes after it
-  rest-step : (s : Step) → Some s ≡ step_at N W e v o → rest_of N W e v o ≡ s ∷ rest_of N W e v (o + 1)
-  rest-step s q =
+  rest_step : (s : Step) → Some s ≡ step_at N W e v o → rest_of N W e v o ≡ s ∷ rest_of N W e v (o + 1)
+  rest_step s q =
       let t : ltb v (visits N W e) ≡ true = lt-ltb v (visits N W e) (inside s q) in
       let at : Some s ≡ slice_get (visit N W e v) o = q ∙ cond-true (ltb v (visits N W e)) _ _ t in
       let later : List Step = from_on (visits N W e - suc v) (suc v) (visit N W e) in
@@ -72,8 +72,8 @@ module _ (N W : ℕ) (e : Element) (v o : ℕ) where
       ∙ ap (λ xs. s ∷ xs) (sym (cond-true (ltb v (visits N W e)) _ _ t))
 
   -- none is there, but the visit is one of the element's: the next visit begins
-  rest-visit : None ≡ step_at N W e v o → v < visits N W e → rest_of N W e v o ≡ rest_of N W e (v + 1) 0
-  rest-visit q l =
+  rest_visit : None ≡ step_at N W e v o → v < visits N W e → rest_of N W e v o ≡ rest_of N W e (v + 1) 0
+  rest_visit q l =
       let t : ltb v (visits N W e) ≡ true = lt-ltb v (visits N W e) l in
       let later : List Step = from_on (visits N W e - suc v) (suc v) (visit N W e) in
       cond-true (ltb v (visits N W e)) _ _ t
@@ -81,11 +81,11 @@ module _ (N W : ℕ) (e : Element) (v o : ℕ) where
       ∙ sym (rest_from N W e (suc v)) ∙ ap (λ (n : ℕ). rest_of N W e n 0) (sym (add-one v))
 
   -- the element has no such visit
-  rest-none : visits N W e ≤ v → rest_of N W e v o ≡ []
-  rest-none l = cond-false (ltb v (visits N W e)) _ _ (le-ltb v (visits N W e) l)
+  rest_none : visits N W e ≤ v → rest_of N W e v o ≡ []
+  rest_none l = cond-false (ltb v (visits N W e)) _ _ (le-ltb v (visits N W e) l)
 
-  pub operation-few : (s : Step) → Some s ≡ step_at N W e v o → o < per_visit e
-  operation-few s q =
+  pub operation_few : (s : Step) → Some s ≡ step_at N W e v o → o < per_visit e
+  operation_few s q =
       let t : ltb v (visits N W e) ≡ true = lt-ltb v (visits N W e) (inside s q) in
       omega (arith, nth_inside (visit N W e v) o s (q ∙ cond-true (ltb v (visits N W e)) _ _ t), visit_length e N W v)
 
@@ -96,15 +96,15 @@ module _ (N W : ℕ) (es : List Element) (i : ℕ) (e : Element) (v o : ℕ) (at
 
   pub left_step : (s : Step) → Some s ≡ step_at N W e v o → left_in N W (drop i es) v o ≡ s ∷ left_in N W (drop i es) v (o + 1)
   left_step s q =
-      here v o ∙ ap (λ xs. xs ++ schedule N W (drop (suc i) es)) (rest-step N W e v o s q) ∙ ap (λ xs. s ∷ xs) (sym (here v (o + 1)))
+      here v o ∙ ap (λ xs. xs ++ schedule N W (drop (suc i) es)) (rest_step N W e v o s q) ∙ ap (λ xs. s ∷ xs) (sym (here v (o + 1)))
 
-  pub left-visit : None ≡ step_at N W e v o → v < visits N W e → left_in N W (drop i es) v o ≡ left_in N W (drop i es) (v + 1) 0
-  left-visit q l =
-      here v o ∙ ap (λ xs. xs ++ schedule N W (drop (suc i) es)) (rest-visit N W e v o q l) ∙ sym (here (v + 1) 0)
+  pub left_visit : None ≡ step_at N W e v o → v < visits N W e → left_in N W (drop i es) v o ≡ left_in N W (drop i es) (v + 1) 0
+  left_visit q l =
+      here v o ∙ ap (λ xs. xs ++ schedule N W (drop (suc i) es)) (rest_visit N W e v o q l) ∙ sym (here (v + 1) 0)
 
-  pub left-element : visits N W e ≤ v → left_in N W (drop i es) v o ≡ left_in N W (drop (i + 1) es) 0 0
-  left-element l =
-      here v o ∙ ap (λ xs. xs ++ schedule N W (drop (suc i) es)) (rest-none N W e v o l)
+  pub left_element : visits N W e ≤ v → left_in N W (drop i es) v o ≡ left_in N W (drop (i + 1) es) 0 0
+  left_element l =
+      here v o ∙ ap (λ xs. xs ++ schedule N W (drop (suc i) es)) (rest_none N W e v o l)
       ∙ sym (left_start N W (drop (suc i) es)) ∙ ap (λ (n : ℕ). left_in N W (drop n es) 0 0) (sym (add-one i))
 
 pub left_end : (N W : ℕ) (es : List Element) (i v o : ℕ) → None ≡ slice_get es i → left_in N W (drop i es) v o ≡ []

@@ -10,7 +10,7 @@ use Rattle.cam.proofs.Machine.{upward_reversed}
 use Rattle.march.proofs.Sweeps.{gather, passes, first_passes, then_passes, both_pass}
 use Rattle.mlt1.specs.Mlt1.{mlt1}
 use Rattle.mlt1.specs.Separation.{Separates}
-use Rattle.mlt1.proofs.Halves.{turn, look, column, half, takes_good, half-takes, half-shows, half-passes, wr-is, wr-free, is-kept, All-good, Free, Is, Uniform}
+use Rattle.mlt1.proofs.Halves.{turn, look, column, half, takes_good, half_takes, half_shows, half-passes, wr_is, wr_free, is_kept, AllGood, Free, Is, Uniform}
 
 module _ (B : Build) where
   abbrev start : ℕ → List Step
@@ -22,19 +22,19 @@ module _ (B : Build) where
   abbrev tail : List Step
   tail = half B true true (half B false false [])
 
-  start-passes : (S : State) → misses B E1 S ≡ 0
-  start-passes S = passes B B.words start (λ k T. Unit {0}) (λ k T hk u. refl) (λ k i T hk hi n u. tt) true B.words (le_refl B.words) S (λ i hi. tt)
+  start_passes : (S : State) → misses B E1 S ≡ 0
+  start_passes S = passes B B.words start (λ k T. Unit {0}) (λ k T hk u. refl) (λ k i T hk hi n u. tt) true B.words (le_refl B.words) S (λ i hi. tt)
 
-  start-uniform : All-good B → (S : State) → Steady B S → Uniform B true (after B E1 S)
-  start-uniform good S st =
+  start_uniform : AllGood B → (S : State) → Steady B S → Uniform B true (after B E1 S)
+  start_uniform good S st =
       (gather B B.words start (λ T. (k : ℕ) → k < B.words → Free B k T) (Is B true)
-      (λ k T hk f m. (λ i hi. wr-free B true k i T (f i hi), wr-is B good true k T hk (f k hk)))
-      (λ k i T hk hi q. is-kept B good true k i T hk q)
-      true B.words (le_refl B.words) S (λ k hk e. st.clear k hk e) (start-passes S)).1
+      (λ k T hk f m. (λ i hi. wr_free B true k i T (f i hi), wr_is B good true k T hk (f k hk)))
+      (λ k i T hk hi q. is_kept B good true k i T hk q)
+      true B.words (le_refl B.words) S (λ k hk e. st.clear k hk e) (start_passes S)).1
 
   -- the schedule is the first sweep and the two halves
-  schedule-is : schedule B.words B.width mlt1 ≡ E1 ++ tail
-  schedule-is =
+  schedule_is : schedule B.words B.width mlt1 ≡ E1 ++ tail
+  schedule_is =
       ap₂ (λ xs ys. E1 ++ half B true true (xs ++ (ys ++ (upward B.width (column B false) ++ []))))
       (upward_reversed B.words (turn B false)) (upward_reversed B.words (look B false))
 
@@ -42,11 +42,11 @@ module _ (B : Build) where
   to S w1 st h =
       let T : State = after B E1 S in
       let ht : misses B tail T ≡ 0 = then_passes B E1 tail S h in
-      let t1 = half-takes B true true (half B false false []) T ht in
-      let t0 = half-takes B false false [] t1.1.0 t1.1.1 in
-      let good : All-good B = λ k j hk hj. takes_good (B.storage k j) (t1.0 k hk j hj) (t0.0 k hk j hj) in
-      let s1 = half-shows B good w1 true true (half B false false []) T (start-uniform good S st) ht in
-      let s0 = half-shows B good w1 false false [] s1.2.0 s1.2.1 s1.2.2 in
+      let t1 = half_takes B true true (half B false false []) T ht in
+      let t0 = half_takes B false false [] t1.1.0 t1.1.1 in
+      let good : AllGood B = λ k j hk hj. takes_good (B.storage k j) (t1.0 k hk j hj) (t0.0 k hk j hj) in
+      let s1 = half_shows B good w1 true true (half B false false []) T (start_uniform good S st) ht in
+      let s0 = half_shows B good w1 false false [] s1.2.0 s1.2.1 s1.2.2 in
       let r0 : (k : ℕ) → k < B.words → (B.stuck k ≡ false) × ((j : ℕ) → j < B.width → B.wrong k j false false ≡ false) = s1.0 s0.1 in
       let r1 : (k : ℕ) → k < B.words → (B.stuck k ≡ false) × ((j : ℕ) → j < B.width → B.wrong k j true true ≡ false) = s0.0 s1.1 in
       record {
@@ -60,11 +60,11 @@ module _ (B : Build) where
 
   from : (S : State) → Steady B S → Sound B → misses B (E1 ++ tail) S ≡ 0
   from S st sound =
-      both_pass B E1 tail S (start-passes S)
-      (half-passes B sound true true (half B false false []) (after B E1 S) (start-uniform sound.good S st)
+      both_pass B E1 tail S (start_passes S)
+      (half-passes B sound true true (half B false false []) (after B E1 S) (start_uniform sound.good S st)
       (λ T u. half-passes B sound false false [] T u (λ U v. refl)))
 
 pub separates : Separates
 separates B S w1 st =
-    let same : misses B (schedule B.words B.width mlt1) S ≡ misses B (E1 B ++ tail B) S = ap (λ xs. misses B xs S) (schedule-is B) in
+    let same : misses B (schedule B.words B.width mlt1) S ≡ misses B (E1 B ++ tail B) S = ap (λ xs. misses B xs S) (schedule_is B) in
     (λ h. to B S w1 st (sym same ∙ h), λ s. same ∙ from B S st s)

@@ -47,47 +47,47 @@ module _ (n : ℕ) (rs : List WordRecord) (a : ℕ) (x r : WordRecord) (fits : n
       (λ e. let s : k ≡ a = eqb-true k a e in ap (λ (i : ℕ). g (record_at n (set rs a r) i)) s ∙ ap g new ∙ here ∙ ap u (sym s))
       (λ e. ap g (other k (eqb-false k a e)) ∙ elsewhere k (eqb-false k a e))
 
-  state-set : (w t : ℕ) (H : ℕ → ℕ → Bool) (M : ℕ → Bool)
+  state_set : (w t : ℕ) (H : ℕ → ℕ → Bool) (M : ℕ → Bool)
       → ((j : ℕ) → shown w r j ≡ H a j) → ((k j : ℕ) → (k ≡ a → ⊥) → shown w (record_at n rs k) j ≡ H k j)
       → mark_of r ≡ M a → ((k : ℕ) → (k ≡ a → ⊥) → mark_of (record_at n rs k) ≡ M k)
       → state_from n w (set rs a r) t ≡ record { held = H; mark = M; tally = t }
-  state-set w t H M held helds mark marks =
+  state_set w t H M held helds mark marks =
       ap₂ {C = State} (λ h m. record { held = h; mark = m; tally = t })
       (fun_ext (λ k. fun_ext (λ j. each (λ y. shown w y j) (λ k. H k j) (held j) (λ k. helds k j) k)))
       (fun_ext (each mark_of M mark marks))
 
-  state-same : (w t : ℕ) → ((j : ℕ) → shown w r j ≡ shown w x j) → mark_of r ≡ mark_of x
+  state_same : (w t : ℕ) → ((j : ℕ) → shown w r j ≡ shown w x j) → mark_of r ≡ mark_of x
       → state_from n w (set rs a r) t ≡ state_from n w rs t
-  state-same w t held mark =
-      state-set w t (λ k. shown w (record_at n rs k)) (λ k. mark_of (record_at n rs k))
+  state_same w t held mark =
+      state_set w t (λ k. shown w (record_at n rs k)) (λ k. mark_of (record_at n rs k))
       (λ j. held j ∙ ap (λ y. shown w y j) old) (λ k j ne. refl) (mark ∙ ap mark_of old) (λ k ne. refl)
 
-  pub build-same : (w : ℕ) → defects r ≡ defects x → build_from n w (set rs a r) ≡ build_from n w rs
-  build-same w e =
+  pub build_same : (w : ℕ) → defects r ≡ defects x → build_from n w (set rs a r) ≡ build_from n w rs
+  build_same w e =
       ap {B = Build} (λ f. record { words = n; width = w; storage = λ k. storage_of (f k); wrong = λ k. wrong_of (f k); stuck = λ k. (f k).stuck })
       (fun_ext (each defects (λ k. defects (record_at n rs k)) (e ∙ ap defects old) (λ k ne. refl)))
 
-  pub write-inside : (w t p m : ℕ)
+  pub write_inside : (w t p m : ℕ)
       → ((j : ℕ) → shown w r j ≡ written_bit w (storage_of x) p m (shown w x) j) → mark_of r ≡ mark_after_write x.stuck (mark_of x)
       → state_from n w (set rs a r) (one_more t) ≡ written (build_from n w rs) a p m (state_from n w rs t)
-  write-inside w t p m cells mark =
-      state-set w (one_more t) _ _
+  write_inside w t p m cells mark =
+      state_set w (one_more t) _ _
       (λ j. cells j ∙ ap (λ y. written_bit w (storage_of y) p m (shown w y) j) old ∙ sym (on_word n a _ _ inside))
       (λ k j ne. sym (off_word k a (ltb k n) _ _ ne))
       (mark ∙ ap (λ y. mark_after_write y.stuck (mark_of y)) old ∙ sym (on_word n a _ _ inside))
       (λ k ne. sym (off_word k a (ltb k n) _ _ ne))
 
-  pub erase-inside : (w t : ℕ) → ((j : ℕ) → shown w r j ≡ shown w x j) → mark_of r ≡ false
+  pub erase_inside : (w t : ℕ) → ((j : ℕ) → shown w r j ≡ shown w x j) → mark_of r ≡ false
       → state_from n w (set rs a r) (one_more t) ≡ erased (build_from n w rs) a (state_from n w rs t)
-  erase-inside w t cells mark =
-      state-set w (one_more t) _ _
+  erase_inside w t cells mark =
+      state_set w (one_more t) _ _
       (λ j. cells j ∙ ap (λ y. shown w y j) old) (λ k j ne. refl)
       (mark ∙ sym (on_word n a _ _ inside)) (λ k ne. sym (off_word k a (ltb k n) _ _ ne))
 
-  pub build-with-storage : (w j : ℕ) (s : Storage)
+  pub build_with_storage : (w j : ℕ) (s : Storage)
       → ((i : ℕ) → storage_of r i ≡ cond (eqb i j) s (storage_of x i)) → wrong_of r ≡ wrong_of x → r.stuck ≡ x.stuck
       → build_from n w (set rs a r) ≡ with_storage a j s (build_from n w rs)
-  build-with-storage w j s cells wrong stuck = λ d.
+  build_with_storage w j s cells wrong stuck = λ d.
       record {
         words = n;
         width = w;
@@ -97,20 +97,20 @@ module _ (n : ℕ) (rs : List WordRecord) (a : ℕ) (x r : WordRecord) (fits : n
         stuck = fun_ext (each (λ y. y.stuck) (λ k. (record_at n rs k).stuck) (stuck ∙ ap (λ y. y.stuck) old) (λ k ne. refl)) d;
       }
 
-  pub state-settled : (w t j : ℕ) (s : Storage)
+  pub state_settled : (w t j : ℕ) (s : Storage)
       → ((i : ℕ) → shown w r i ≡ cond (eqb i j) (settled_bit s (shown w x i)) (shown w x i)) → mark_of r ≡ mark_of x
       → state_from n w (set rs a r) t ≡ settled a j s (state_from n w rs t)
-  state-settled w t j s cells mark =
-      state-set w t _ _
+  state_settled w t j s cells mark =
+      state_set w t _ _
       (λ i. cells i ∙ ap (λ y. cond (eqb i j) (settled_bit s (shown w y i)) (shown w y i)) old ∙ sym (on a (eqb i j) _ _))
       (λ k i ne. sym (off_word k a (eqb i j) _ _ ne))
       (mark ∙ ap mark_of old) (λ k ne. refl)
 
-  pub build-with-pair : (w j : ℕ) (h b : Bool)
+  pub build_with_pair : (w j : ℕ) (h b : Bool)
       → ((i : ℕ) (g c : Bool) → wrong_of r i g c ≡ ((eqb i j && is_pair h b g c) || wrong_of x i g c))
       → storage_of r ≡ storage_of x → r.stuck ≡ x.stuck
       → build_from n w (set rs a r) ≡ with_pair a j h b (build_from n w rs)
-  build-with-pair w j h b pairs storage stuck = λ d.
+  build_with_pair w j h b pairs storage stuck = λ d.
       record {
         words = n;
         width = w;
@@ -122,13 +122,13 @@ module _ (n : ℕ) (rs : List WordRecord) (a : ℕ) (x r : WordRecord) (fits : n
         stuck = fun_ext (each (λ y. y.stuck) (λ k. (record_at n rs k).stuck) (stuck ∙ ap (λ y. y.stuck) old) (λ k ne. refl)) d;
       }
 
-  pub state-stays : (w t : ℕ) → shown w r ≡ shown w x → mark_of r ≡ mark_of x
+  pub state_stays : (w t : ℕ) → shown w r ≡ shown w x → mark_of r ≡ mark_of x
       → state_from n w (set rs a r) t ≡ state_from n w rs t
-  state-stays w t held mark = state-same w t (λ j. ap (λ f. f j) held) mark
+  state_stays w t held mark = state_same w t (λ j. ap (λ f. f j) held) mark
 
-  pub build-with-stuck-mark : (w : ℕ) → r.stuck ≡ true → storage_of r ≡ storage_of x → wrong_of r ≡ wrong_of x
+  pub build_with_stuck_mark : (w : ℕ) → r.stuck ≡ true → storage_of r ≡ storage_of x → wrong_of r ≡ wrong_of x
       → build_from n w (set rs a r) ≡ with_stuck_mark a (build_from n w rs)
-  build-with-stuck-mark w stuck storage wrong = λ d.
+  build_with_stuck_mark w stuck storage wrong = λ d.
       record {
         words = n;
         width = w;
@@ -139,10 +139,10 @@ module _ (n : ℕ) (rs : List WordRecord) (a : ℕ) (x r : WordRecord) (fits : n
             (λ k ne. ap (λ e. e || (record_at n rs k).stuck) (sym (ne_eqb k a ne)))) d;
       }
 
-  pub state-unmarked : (w t : ℕ) → mark_of r ≡ false → shown w r ≡ shown w x
+  pub state_unmarked : (w t : ℕ) → mark_of r ≡ false → shown w r ≡ shown w x
       → state_from n w (set rs a r) t ≡ unmarked a (state_from n w rs t)
-  state-unmarked w t mark held =
-      state-set w t _ _
+  state_unmarked w t mark held =
+      state_set w t _ _
       (λ j. ap (λ f. f j) held ∙ ap (λ y. shown w y j) old) (λ k j ne. refl)
       (mark ∙ ap (λ e. not e && mark_of (record_at n rs a)) (sym (eq-eqb a a refl)))
       (λ k ne. ap (λ e. not e && mark_of (record_at n rs k)) (sym (ne_eqb k a ne)))

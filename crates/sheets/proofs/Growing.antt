@@ -118,12 +118,12 @@ start text o a t h = record {
 }
 
 module _ {text : List ℕ} {o : Order} {a : ℕ} {started test : Test} {count place : ℕ} (s : Sofar text o a started test count place) where
-  at-element : (k : Token) (p : Parsed) → OperationAt o count text k (Ok p) → OperationAt (order_of s.element) (length (operations_of s.element)) text k (Ok p)
-  at-element k p x = subst (λ o. OperationAt o (length (operations_of s.element)) text k (Ok p)) (sym s.order) (subst (λ n. OperationAt o n text k (Ok p)) (sym s.counted) x)
+  at_element : (k : Token) (p : Parsed) → OperationAt o count text k (Ok p) → OperationAt (order_of s.element) (length (operations_of s.element)) text k (Ok p)
+  at_element k p x = subst (λ o. OperationAt o (length (operations_of s.element)) text k (Ok p)) (sym s.order) (subst (λ n. OperationAt o n text k (Ok p)) (sym s.counted) x)
 
   pub one_more : {k : Token} {p : Parsed} (u : Test) → Lexed text place (Ok k) → k.kind ≡ Open → OperationAt o count text k (Ok p) → elements_of u ≡ last_longer (elements_of test) p.operation → name_of u ≡ name_of test → Sofar text o a started u (count + 1) p.to
   one_more {k} {p} u x opening reads grown named =
-      let y = at-element k p reads in
+      let y = at_element k p reads in
       let op = p.operation in
       let f = token_ahead x in
       let g = operation_ahead o count text k (Ok p) reads in
@@ -146,11 +146,11 @@ module _ {text : List ℕ} {o : Order} {a : ℕ} {started test : Test} {count pl
       let h = read_room o count text k p reads in
       let n = s.counted in
       let some : ltb (length (operations_of s.element)) 8 ≡ true = grind (arith, nat_tests) in
-      refused_not_0 _ f refusal (ap (λ l. first_no (operation_questions l op)) (s.holds es e) ∙ ap first_no (questions_at_end es s.element op) ∙ both_yes _ _ 32 33 some (read_allows s.element _ text k p (at-element k p reads)))
+      refused_not_0 _ f refusal (ap (λ l. first_no (operation_questions l op)) (s.holds es e) ∙ ap first_no (questions_at_end es s.element op) ∙ both_yes _ _ 32 33 some (read_allows s.element _ text k p (at_element k p reads)))
 
   -- the fault of an operation is one of the element
-  pub refused-piece : {k : Token} {f : Fault} → Lexed text place (Ok k) → k.kind ≡ Open → OperationAt o count text k (Err f) → Inside text s.element place (Err f)
-  refused-piece {k} {f} x opening fault =
+  pub refused_piece : {k : Token} {f : Fault} → Lexed text place (Ok k) → k.kind ≡ Open → OperationAt o count text k (Err f) → Inside text s.element place (Err f)
+  refused_piece {k} {f} x opening fault =
       piece x opening (off (subst (λ o. OperationAt o (length (operations_of s.element)) text k (Err f)) (sym s.order) (subst (λ n. OperationAt o n text k (Err f)) (sym s.counted) fault)))
 
   -- the element is whole

@@ -17,7 +17,7 @@ use Rattle.words.proofs.Rules.{One, then_one, then_made, same_ok}
 use Rattle.words.proofs.Lexemes.{lexed_one, measured_one, lexed_named}
 use Rattle.words.proofs.Parts.{next_one, word_next_one, name_next_one, token_ahead}
 use Rattle.words.proofs.Nesting.{remark_one}
-use Rattle.words.proofs.Lists.{listing-one, leaves}
+use Rattle.words.proofs.Lists.{listing_one, leaves}
 use Rattle.sheet_operations.specs.Questions.{ElementRoom}
 use Rattle.sheet_operations.specs.Operations.{OperationAt}
 use Rattle.sheet_operations.proofs.Ones.{operation_one, room_one, says_one}
@@ -34,7 +34,7 @@ grows_one text e t =
     then_one (OperationAt (order_of e) (length (operations_of e)) text t) _ (operation_one (order_of e) (length (operations_of e)) text t) (λ p. says_one _)
 
 pub inside_one : (text : List ℕ) (e : tests.Element) (a : ℕ) → One (Inside text e a)
-inside_one text e a = listing-one Filled (Grows text) text (grows_one text) e a
+inside_one text e a = listing_one Filled (Grows text) text (grows_one text) e a
 
 pub element_one : (o : Order) (es : List tests.Element) (p : ℕ) (text : List ℕ) (a : ℕ) → One (ElementAt o es p text a)
 element_one o es p text a =
@@ -72,7 +72,7 @@ line_one text es t =
     then_one (Next LineFeed text g.to) _ (next_one LineFeed text g.to) (λ e. says_one _)))
 
 pub lines_one : (text : List ℕ) (es : List tests.Element) (a : ℕ) → One (Lines text es a)
-lines_one text es a = listing-one (λ es. 0 < length es) (LineAt text) text (line_one text) es a
+lines_one text es a = listing_one (λ es. 0 < length es) (LineAt text) text (line_one text) es a
 
 pub title_one : (text : List ℕ) → One (TitleLine text)
 title_one text =

@@ -18,24 +18,24 @@ not_past xs i d l e =
     omega arith
 
 module _ {X : Type 0} (f : X → List ℕ) where
-  pub joined-append : (xs ys : List X) → flat_map f (xs ++ ys) ≡ flat_map f xs ++ flat_map f ys
-  joined-append [] ys = refl
-  joined-append (x ∷ xs) ys = ap (λ l. f x ++ l) (joined-append xs ys) ∙ sym (append_assoc (f x) (flat_map f xs) (flat_map f ys))
+  pub joined_append : (xs ys : List X) → flat_map f (xs ++ ys) ≡ flat_map f xs ++ flat_map f ys
+  joined_append [] ys = refl
+  joined_append (x ∷ xs) ys = ap (λ l. f x ++ l) (joined_append xs ys) ∙ sym (append_assoc (f x) (flat_map f xs) (flat_map f ys))
 
   pub joined_step : (xs : List X) (i : ℕ) (x : X) → i < length xs → get_or xs i x ≡ x → flat_map f (take (i + 1) xs) ≡ flat_map f (take i xs) ++ f x
   joined_step xs i x l e =
       ap (flat_map f) (take_more xs i x l) ∙ sym (flat_map_more f [] (take i xs) (get_or xs i x)) ∙ ap (λ y. flat_map f (take i xs) ++ f y) e
 
-  pub length-step : (xs : List X) (i : ℕ) (x : X) → i < length xs → get_or xs i x ≡ x → length (flat_map f (take (i + 1) xs)) ≡ length (flat_map f (take i xs)) + length (f x)
-  length-step xs i x l e = ap length (joined_step xs i x l e) ∙ length-append (flat_map f (take i xs)) (f x)
+  pub length_step : (xs : List X) (i : ℕ) (x : X) → i < length xs → get_or xs i x ≡ x → length (flat_map f (take (i + 1) xs)) ≡ length (flat_map f (take i xs)) + length (f x)
+  length_step xs i x l e = ap length (joined_step xs i x l e) ∙ length-append (flat_map f (take i xs)) (f x)
 
   -- there is room for each piece where there is room for all
-  pub joined-within : (xs : List X) (i : ℕ) (x : X) → i < length xs → get_or xs i x ≡ x → length (flat_map f (take i xs)) + length (f x) ≤ length (flat_map f xs)
-  joined-within xs i x l e =
+  pub joined_within : (xs : List X) (i : ℕ) (x : X) → i < length xs → get_or xs i x ≡ x → length (flat_map f (take i xs)) + length (f x) ≤ length (flat_map f xs)
+  joined_within xs i x l e =
       let front = flat_map f (take (i + 1) xs) in
       let whole : flat_map f xs ≡ front ++ flat_map f (drop (i + 1) xs) =
-      ap (flat_map f) (sym (take-append-drop (i + 1) xs)) ∙ joined-append (take (i + 1) xs) (drop (i + 1) xs) in
-      omega (arith, length-step xs i x l e, ap length whole, length-append front (flat_map f (drop (i + 1) xs)))
+      ap (flat_map f) (sym (take-append-drop (i + 1) xs)) ∙ joined_append (take (i + 1) xs) (drop (i + 1) xs) in
+      omega (arith, length_step xs i x l e, ap length whole, length-append front (flat_map f (drop (i + 1) xs)))
 
 -- the item at a place of a mapped list, by the default that it is
 pub mapped_at : {X Y : Type 0} (g : X → Y) (xs : List X) (i : ℕ) (d : X) → i < length xs → get_or (map g xs) i (g (get_or xs i d)) ≡ g (get_or xs i d)

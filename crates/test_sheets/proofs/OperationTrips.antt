@@ -12,7 +12,7 @@ use Rattle.words.specs.declared.token.Kind.TheVariants.{Open}
 use Rattle.words.specs.Lexing.{Lexed, token}
 use Rattle.words.specs.Readings.{on}
 use Rattle.words.specs.Forms.{BitNext, EitherNext}
-use Rattle.words.proofs.Places.{Stands, next, past, lex_space, lex_open, then_space, lex-word, spelt-there, close_there, first-there, second-there, zero_there, one_there}
+use Rattle.words.proofs.Places.{Stands, next, past, lex_space, lex_open, then_space, lex_word, spelt_there, close_there, first_there, second_there, zero_there, one_there}
 use Rattle.sheet_operations.specs.declared.letter.Letter.{Letter}
 use Rattle.sheet_operations.specs.declared.letter.Letter.TheVariants as letter
 use Rattle.sheet_operations.specs.declared.operation.Parsed.{Parsed}
@@ -32,7 +32,7 @@ regroup x y z s = record { is = s.is ∙ append_assoc x y z }
 letter_there : (l : Letter) (b c : ℕ) → spelling l ≡ b ∷ [] → is_letter_or_digit b ≡ true → is_letter_or_digit c ≡ false
     → {text rest : List ℕ} {a : ℕ} → Stands text a (b ∷ c ∷ rest) → LetterNext text a (Ok (record { letter = l; from = a; to = a + 1 }))
 letter_there l b c is yes-b no-c {text} {rest} {a} x =
-    on (lex-word (b ∷ []) c rest x (rw yes-b) no-c (omega arith) (omega arith)) (known l (rw is (spelt-there (b ∷ []) c rest x)))
+    on (lex_word (b ∷ []) c rest x (rw yes-b) no-c (omega arith) (omega arith)) (known l (rw is (spelt_there (b ∷ []) c rest x)))
 
 bit_0 : (c : ℕ) → is_letter_or_digit c ≡ false → {text rest : List ℕ} {a : ℕ} → Stands text a (32 ∷ 48 ∷ c ∷ rest) → BitNext text a (Ok (record { value = false; to = a + 1 + 1 }))
 bit_0 c no-c {rest} x = then_space x (zero_there c rest no-c (next x))
@@ -41,13 +41,13 @@ bit_1 : (c : ℕ) → is_letter_or_digit c ≡ false → {text rest : List ℕ} 
 bit_1 c no-c {rest} x = then_space x (one_there c rest no-c (next x))
 
 none_there : {text rest : List ℕ} {a : ℕ} → Stands text a (32 ∷ (codes "none" ++ (41 ∷ rest))) → EitherNext (codes "none") (codes "hit") text a (Ok (record { value = false; to = a + 1 + 4 }))
-none_there {rest} x = then_space x (first-there (codes "none") 41 rest (next x) (codes "hit") refl refl (omega arith) (omega arith))
+none_there {rest} x = then_space x (first_there (codes "none") 41 rest (next x) (codes "hit") refl refl (omega arith) (omega arith))
 
 words_differ : codes "none" ≡ codes "hit" → ⊥
 words_differ e = let h : ◌≡◌ {A = ℕ} 110 104 = ap (λ w. get_or w 0 0) e in omega arith
 
 hit_there : {text rest : List ℕ} {a : ℕ} → Stands text a (32 ∷ (codes "hit" ++ (41 ∷ rest))) → EitherNext (codes "none") (codes "hit") text a (Ok (record { value = true; to = a + 1 + 3 }))
-hit_there {rest} x = then_space x (second-there (codes "hit") 41 rest (next x) (codes "none") words_differ refl refl (omega arith) (omega arith))
+hit_there {rest} x = then_space x (second_there (codes "hit") 41 rest (next x) (codes "none") words_differ refl refl (omega arith) (omega arith))
 
 place : (o : TestOperation) (p q : ℕ) → p ≡ q → ◌≡◌ {A = Result Parsed Fault} (Ok (record { operation = o; to = p })) (Ok (record { operation = o; to = q }))
 place o p q e = ap (λ (i : ℕ). Ok (record { operation = o; to = i })) e

@@ -17,7 +17,7 @@ use Rattle.words.specs.Readings.{on}
 use Rattle.words.specs.Forms.{Next}
 use Rattle.words.specs.Listings.{gathered, shut, more}
 use Rattle.words.proofs.Rules.{pinned}
-use Rattle.words.proofs.Places.{Stands, next, past, lex_open, lex_close, then_space, lex-word, spelt-there, word-there, name-there, open_there, feed_there, end_there}
+use Rattle.words.proofs.Places.{Stands, next, past, lex_open, lex_close, then_space, lex_word, spelt_there, word_there, name_there, open_there, feed_there, end_there}
 use Rattle.sheet_operations.specs.Questions.{room}
 use Rattle.sheets.specs.declared.line.LineWord.TheVariants.{Element as AnElement}
 use Rattle.sheets.specs.Elements.{Inside}
@@ -59,19 +59,19 @@ word_trip Up c rest text a off s =
     let p : a + 1 + 2 ≡ a + 3 = omega arith in (
       lex_open s,
       subst (λ (k : ℕ). LineWordNext text (a + 1) (Ok (record { word = AnElement Up; to = k }))) p
-          (on (lex-word (codes "up") c rest (next s) refl off (omega arith) (omega arith)) (known (AnElement Up) (spelt-there (codes "up") c rest (next s)))),
+          (on (lex_word (codes "up") c rest (next s) refl off (omega arith) (omega arith)) (known (AnElement Up) (spelt_there (codes "up") c rest (next s)))),
     )
 word_trip Down c rest text a off s =
     let p : a + 1 + 4 ≡ a + 5 = omega arith in (
       lex_open s,
       subst (λ (k : ℕ). LineWordNext text (a + 1) (Ok (record { word = AnElement Down; to = k }))) p
-          (on (lex-word (codes "down") c rest (next s) refl off (omega arith) (omega arith)) (known (AnElement Down) (spelt-there (codes "down") c rest (next s)))),
+          (on (lex_word (codes "down") c rest (next s) refl off (omega arith) (omega arith)) (known (AnElement Down) (spelt_there (codes "down") c rest (next s)))),
     )
 word_trip Columns c rest text a off s =
     let p : a + 1 + 7 ≡ a + 8 = omega arith in (
       lex_open s,
       subst (λ (k : ℕ). LineWordNext text (a + 1) (Ok (record { word = AnElement Columns; to = k }))) p
-          (on (lex-word (codes "columns") c rest (next s) refl off (omega arith) (omega arith)) (known (AnElement Columns) (spelt-there (codes "columns") c rest (next s)))),
+          (on (lex_word (codes "columns") c rest (next s) refl off (omega arith) (omega arith)) (known (AnElement Columns) (spelt_there (codes "columns") c rest (next s)))),
     )
 
 -- a filled element has a first operation, and a space stands before it
@@ -157,9 +157,9 @@ title_trip name rest text s named long =
     let few : n ≤ 16 = leb-true n 16 inner.0 in
     let s5 : Stands text 5 (32 ∷ (name ++ (10 ∷ rest))) = past (codes "test") 32 (name ++ (10 ∷ rest)) (next s) in
     let s6 = next s5 in (
-      on (short long) (on (open_there s) (on (word-there (codes "test") 32 (name ++ (10 ∷ rest)) (next s) refl refl (omega arith) (omega arith))
-          (on (then_space s5 (name-there name 10 rest s6 inner.1 refl some few)) (on (feed_there (past name 10 rest s6)) refl)))),
-      (spelt-there name 10 rest s6).is,
+      on (short long) (on (open_there s) (on (word_there (codes "test") 32 (name ++ (10 ∷ rest)) (next s) refl refl (omega arith) (omega arith))
+          (on (then_space s5 (name_there name 10 rest s6 inner.1 refl some few)) (on (feed_there (past name 10 rest s6)) refl)))),
+      (spelt_there name 10 rest s6).is,
     )
 
 pub reads_back : ReadsBack

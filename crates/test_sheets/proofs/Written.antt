@@ -15,7 +15,7 @@ use Rattle.march.specs.Building.{opened, order_of, operations_of, is_compare, al
 use Rattle.sheet_writer.specs.declared.states.InsideElement.{InsideElement}
 use Rattle.sheet_writer.specs.Sheets.{operation_piece}
 use Rattle.sheet_writer.specs.Writing.{fits, write_questions}
-use Rattle.test_sheets.proofs.Joins.{joined_step, length-step}
+use Rattle.test_sheets.proofs.Joins.{joined_step, length_step}
 
 -- the pieces of the first i items were written from a place on; the next comes at another
 pub record Pieces {X : Type 0} (f : X → List ℕ) (from : ℕ) (xs : List X) (i : ℕ) (old cur : List ℕ) (at : ℕ) : Type 0 where
@@ -33,14 +33,14 @@ module _ {X : Type 0} (f : X → List ℕ) (from : ℕ) (xs : List X) (old : Lis
       → Pieces f from xs (i + 1) old new to
   pieces_more i cur new at to x so l found room next put =
       record {
-        place = omega (arith, so.place, length-step f xs i x l found);
+        place = omega (arith, so.place, length_step f xs i x l found);
         text = put ∙ (λ j. over (so.text j) (so.place j) (f x)) ∙ over_over old (flat_map f (take i xs)) (f x) from room
             ∙ ap (over old from) (sym (joined_step f xs i x l found));
       }
 
-  pub pieces-all : (i : ℕ) (cur : List ℕ) (at : ℕ) → Pieces f from xs i old cur at → length xs ≤ i
+  pub pieces_all : (i : ℕ) (cur : List ℕ) (at : ℕ) → Pieces f from xs i old cur at → length xs ≤ i
       → (at ≡ from + length (flat_map f xs)) × (cur ≡ over old from (flat_map f xs))
-  pieces-all i cur at so e =
+  pieces_all i cur at so e =
       let all : take i xs ≡ xs = take_all i xs e in (
         so.place ∙ ap (λ ys. from + length (flat_map f ys)) all,
         so.text ∙ ap (λ ys. over old from (flat_map f ys)) all,

@@ -40,10 +40,10 @@ module _ {X : Type 0} (Enough : X → Type 0) (Piece : X → Token → Result (G
   at : {x : X} {a : ℕ} {t : Token} {s : Result (Gathered X) Fault} → Lexed text a (Ok t) → Listing Enough Piece text x a s → Goes x t s
   at {x} {a} {s} l y = goes_on (lexed_one text a) l (view x a s y)
 
-  pub listing-one : ((x : X) (t : Token) → One (Piece x t)) → (x : X) (a : ℕ) → One (Listing Enough Piece text x a)
-  listing-one each x a _ s (shut l k e) y = sym ((at l y).at_close k e)
-  listing-one each x a r s (more {t} {y = g} l k p rest) y = listing-one each g.value g.to r s rest (goes_on (each x t) p ((at l y).at_open k))
-  listing-one each x a _ s (lexed l) y = sym (stops_at (lexed_one text a) l (view x a s y))
-  listing-one each x a _ s (too_few l k n) y = sym ((at l y).at-early k n)
-  listing-one each x a _ s (other l c o) y = sym ((at l y).at_other c o)
-  listing-one each x a _ s (piece {t} l k p) y = sym (stops_at (each x t) p ((at l y).at_open k))
+  pub listing_one : ((x : X) (t : Token) → One (Piece x t)) → (x : X) (a : ℕ) → One (Listing Enough Piece text x a)
+  listing_one each x a _ s (shut l k e) y = sym ((at l y).at_close k e)
+  listing_one each x a r s (more {t} {y = g} l k p rest) y = listing_one each g.value g.to r s rest (goes_on (each x t) p ((at l y).at_open k))
+  listing_one each x a _ s (lexed l) y = sym (stops_at (lexed_one text a) l (view x a s y))
+  listing_one each x a _ s (too_few l k n) y = sym ((at l y).at-early k n)
+  listing_one each x a _ s (other l c o) y = sym ((at l y).at_other c o)
+  listing_one each x a _ s (piece {t} l k p) y = sym (stops_at (each x t) p ((at l y).at_open k))

@@ -96,8 +96,8 @@ module _ (w : List ℕ) (c : ℕ) (rest : List ℕ) {text : List ℕ} {a : ℕ} 
     stops = λ lt. ap is_letter_or_digit (here past) ∙ off;
   }
 
-  pub lex-word : letters w ≡ true → is_letter_or_digit c ≡ false → 0 < length w → length w ≤ 16 → Lexed text a (Ok (token Word a (a + length w)))
-  lex-word all off some few =
+  pub lex_word : letters w ≡ true → is_letter_or_digit c ≡ false → 0 < length w → length w ≤ 16 → Lexed text a (Ok (token Word a (a + length w)))
+  lex_word all off some few =
       let r = run all off in
       let is-letter = r.letters a (omega arith) (omega arith) in
       let no : (b : ℕ) → is_letter_or_digit b ≡ false → get_or text a 0 ≡ b → ⊥ = λ b off e. clash _ is-letter (ap is_letter_or_digit e ∙ off) in
@@ -107,23 +107,23 @@ module _ (w : List ℕ) (c : ℕ) (rest : List ℕ) {text : List ℕ} {a : ℕ} 
         stands = others (omega (arith, r.within)) (no 40 refl) (no 41 refl) (no 10 refl) (word (a + length w) (omega arith) r (omega arith));
       }
 
-  pub spelt-there : Spells text (token Word a (a + length w)) w
-  spelt-there =
+  pub spelt_there : Spells text (token Word a (a + length w)) w
+  spelt_there =
       let n : (a + length w) - a ≡ length w = omega arith in
       record { kind = refl; is = ap (λ k. take k (drop a text)) n ∙ ap (take (length w)) s.is ∙ take_at w (c ∷ rest) (length w) refl }
 
   -- the word is read where it is wanted
-  pub word-there : letters w ≡ true → is_letter_or_digit c ≡ false → 0 < length w → length w ≤ 16 → WordNext w text a (Ok (a + length w))
-  word-there all off some few = on (lex-word all off some few) (spelt spelt-there)
+  pub word_there : letters w ≡ true → is_letter_or_digit c ≡ false → 0 < length w → length w ≤ 16 → WordNext w text a (Ok (a + length w))
+  word_there all off some few = on (lex_word all off some few) (spelt spelt_there)
 
-  pub name-there : letters w ≡ true → is_letter_or_digit c ≡ false → 0 < length w → length w ≤ 16 → NameNext text a (Ok (token Word a (a + length w)))
-  name-there all off some few = on (lex-word all off some few) (named refl)
+  pub name_there : letters w ≡ true → is_letter_or_digit c ≡ false → 0 < length w → length w ≤ 16 → NameNext text a (Ok (token Word a (a + length w)))
+  name_there all off some few = on (lex_word all off some few) (named refl)
 
-  pub first-there : (v : List ℕ) → letters w ≡ true → is_letter_or_digit c ≡ false → 0 < length w → length w ≤ 16 → EitherNext w v text a (Ok (record { value = false; to = a + length w }))
-  first-there v all off some few = on (lex-word all off some few) (first spelt-there)
+  pub first_there : (v : List ℕ) → letters w ≡ true → is_letter_or_digit c ≡ false → 0 < length w → length w ≤ 16 → EitherNext w v text a (Ok (record { value = false; to = a + length w }))
+  first_there v all off some few = on (lex_word all off some few) (first spelt_there)
 
-  pub second-there : (v : List ℕ) → (v ≡ w → ⊥) → letters w ≡ true → is_letter_or_digit c ≡ false → 0 < length w → length w ≤ 16 → EitherNext v w text a (Ok (record { value = true; to = a + length w }))
-  second-there v n all off some few = on (lex-word all off some few) (second (λ s. n (sym s.is ∙ spelt-there.is)) spelt-there)
+  pub second_there : (v : List ℕ) → (v ≡ w → ⊥) → letters w ≡ true → is_letter_or_digit c ≡ false → 0 < length w → length w ≤ 16 → EitherNext v w text a (Ok (record { value = true; to = a + length w }))
+  second_there v n all off some few = on (lex_word all off some few) (second (λ s. n (sym s.is ∙ spelt_there.is)) spelt_there)
 
 pub open_there : {text rest : List ℕ} {a : ℕ} → Stands text a (40 ∷ rest) → Next Open text a (Ok (a + 1))
 open_there x = on (lex_open x) (wanted refl)
@@ -141,7 +141,7 @@ bits_differ : codes "0" ≡ codes "1" → ⊥
 bits_differ e = let h : ◌≡◌ {A = ℕ} 48 49 = ap (λ w. get_or w 0 0) e in omega arith
 
 pub zero_there : (c : ℕ) (rest : List ℕ) {text : List ℕ} {a : ℕ} → is_letter_or_digit c ≡ false → Stands text a (48 ∷ c ∷ rest) → BitNext text a (Ok (record { value = false; to = a + 1 }))
-zero_there c rest off x = first-there (codes "0") c rest x (codes "1") refl off (omega arith) (omega arith)
+zero_there c rest off x = first_there (codes "0") c rest x (codes "1") refl off (omega arith) (omega arith)
 
 pub one_there : (c : ℕ) (rest : List ℕ) {text : List ℕ} {a : ℕ} → is_letter_or_digit c ≡ false → Stands text a (49 ∷ c ∷ rest) → BitNext text a (Ok (record { value = true; to = a + 1 }))
-one_there c rest off x = second-there (codes "1") c rest x (codes "0") bits_differ refl off (omega arith) (omega arith)
+one_there c rest off x = second_there (codes "1") c rest x (codes "0") bits_differ refl off (omega arith) (omega arith)

@@ -9,7 +9,7 @@ use Rattle.array_text.specs.Grammar.{ArrayCall, enough, too_little}
 use Rattle.array_text.specs.Meaning.{new_state, Exactly}
 use Rattle.array_text.proofs.Ones.{call_one, call_fault, first_line_sized, within}
 use Rattle.array_text.proofs.Exact.{exactly}
-use Rattle.array_text.proofs.Later.{later_of, later-words, blanked_same}
+use Rattle.array_text.proofs.Later.{later_of, later_words, blanked_same}
 use Rattle.array_text.proofs.array.read_array.Goals as goal
 
 pub returns-then-len-lt-RECORDS : goal.returns-then-len-lt-RECORDS
@@ -52,7 +52,7 @@ returns-in-Ok-add-rest c =
         each_defect_and_no_other = subst (Exactly x.0) (sym h.build) (exactly _ _ x.0 h.distinct);
         inside = h.inside;
       };
-      records-afterwards = later-words c.in-Ok.size.words c.in-Ok-new.array c.add-rest.new.array (vec_items c.args.records) c.in-Ok-add-rest.ensures.later-records-stay made.later-records-stay (omega (arith, s.few_words, c.args.records.ok.0)) (ap (λ B. B.words) made.made-flawless);
+      records-afterwards = later_words c.in-Ok.size.words c.in-Ok-new.array c.add-rest.new.array (vec_items c.args.records) c.in-Ok-add-rest.ensures.later-records-stay made.later-records-stay (omega (arith, s.few_words, c.args.records.ok.0)) (ap (λ B. B.words) made.made-flawless);
       untouched-without-memory = omega arith;
     }
 

@@ -3,7 +3,7 @@ use Rattle.march.specs.declared.element.Element.{Element}
 use Rattle.march.specs.Tests.{meant}
 use Rattle.march.proofs.Lengths.{per_visit_few}
 use Rattle.mlt1.specs.Left.{left_in}
-use Rattle.mlt1.proofs.Lefts.{left_step, left-visit, left-element, left_end, operation-few}
+use Rattle.mlt1.proofs.Lefts.{left_step, left_visit, left_element, left_end, operation_few}
 use Rattle.trials.proofs.Elements.{beyond, element_at, none_past}
 use Rattle.trials.proofs.Outlooks.{whole_is}
 use Rattle.campaigns.proofs.Sights.{sight_step, sight_at, sight_miss, sight_end}
@@ -14,14 +14,14 @@ overflow-add-operation g c =
     let n = c.words-words.result in
     let w = min c.width-width.result 64 in
     let r : Element = get_or c.elements-element-items.result.now c.elements.element-index beyond in
-    omega (arith, operation-few n w (meant r) c.loop-visit.visit c.loop-step.operation _ c.in-Some.ensures.step-of-visit, per_visit_few r)
+    omega (arith, operation_few n w (meant r) c.loop-visit.visit c.loop-step.operation _ c.in-Some.ensures.step-of-visit, per_visit_few r)
 
 pub loop-step-smaller : goal.loop-step-smaller
 loop-step-smaller g c =
     let n = c.words-words.result in
     let w = min c.width-width.result 64 in
     let r : Element = get_or c.elements-element-items.result.now c.elements.element-index beyond in
-    omega (arith, operation-few n w (meant r) c.loop-visit.visit c.loop-step.operation _ c.in-Some.ensures.step-of-visit, per_visit_few r)
+    omega (arith, operation_few n w (meant r) c.loop-visit.visit c.loop-step.operation _ c.in-Some.ensures.step-of-visit, per_visit_few r)
 
 pub loop-step-preserved : goal.loop-step-preserved
 loop-step-preserved g c =
@@ -50,7 +50,7 @@ loop-visit-preserved g c =
     let r : Element = get_or rs i beyond in
     let at = element_at rs (map meant rs) i beyond refl c.elements-test.true in
     let none = c.in-default.ensures.step-of-visit in (
-      sym (sight_at _ _ _ _ (left-visit n w (map meant rs) i (meant r) c.loop-visit.visit c.loop-step.operation at none (omega (arith, c.loop-visit-test.true, c.visits-visit-end.ensures.visit-count))))
+      sym (sight_at _ _ _ _ (left_visit n w (map meant rs) i (meant r) c.loop-visit.visit c.loop-step.operation at none (omega (arith, c.loop-visit-test.true, c.visits-visit-end.ensures.visit-count))))
           ∙ c.loop-step.invariant.0 ∙ c.loop-visit.invariant.0,
       c.loop-step.invariant.1,
     )
@@ -63,7 +63,7 @@ elements-preserved g c =
     let rs = c.elements-element-items.result.now in
     let r : Element = get_or rs i beyond in
     let at = element_at rs (map meant rs) i beyond refl c.elements-test.true in (
-      sym (sight_at _ _ _ _ (left-element n w (map meant rs) i (meant r) c.loop-visit.visit 0 at (omega (arith, c.loop-visit-test.false, c.visits-visit-end.ensures.visit-count))))
+      sym (sight_at _ _ _ _ (left_element n w (map meant rs) i (meant r) c.loop-visit.visit 0 at (omega (arith, c.loop-visit-test.false, c.visits-visit-end.ensures.visit-count))))
           ∙ c.loop-visit.invariant.0 ∙ c.elements.invariant.0,
       c.loop-visit.invariant.1,
     )

@@ -10,5 +10,5 @@ returns c =
     let four = c.plant-if-4.ensures in
     record {
       pairs-planted = four_planted c.args.word.number c.args.column.number c.args.pairs _ _ _ _ _ one.pair-planted two.pair-planted three.pair-planted four.pair-planted;
-      state-stays = four.state-stays ∙ three.state-stays ∙ two.state-stays ∙ one.state-stays;
+      state_stays = four.state-stays ∙ three.state-stays ∙ two.state-stays ∙ one.state-stays;
     }

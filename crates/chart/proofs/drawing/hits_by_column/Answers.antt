@@ -2,7 +2,7 @@ use Rattle.std.proofs.Common.{◌≡◌, ℕ, ◌+◌, ◌<◌, true, false, sym
 use Rattle.cam.specs.Machine.{upward}
 use Rattle.cam.specs.Operations.{after_all}
 use Rattle.cam.proofs.BitLaws.{Built, built_set, built_left}
-use Rattle.chart.proofs.Columns.{one, hits_at, asked_none, equal_at, but_at, asked-hit, asked-next}
+use Rattle.chart.proofs.Columns.{one, hits_at, asked_none, equal_at, but_at, asked_hit, asked_next}
 use Rattle.chart.proofs.drawing.hits_by_column.Goals as goal
 use Rattle.chart.proofs.drawing.hits_by_column.Goals.{then-compare, else-compare}
 
@@ -20,13 +20,13 @@ loop-number-preserved g c =
     let p-is = equal_at B.width _ _ c.args.value formed.few_bits width c.equal-bits-pattern.ensures.pattern in
     let m-is = but_at B.width _ _ i formed.few_bits width c.all-but-column.ensures.mask in
     let few : i < 64 = omega (arith, width, formed.few_bits) in
-    let told = asked-hit B c.args.value S i c.loop-number.hits _ _ c.loop-number.invariant _ _ p-is m-is _ c.compare.ensures.some-word-matches in
+    let told = asked_hit B c.args.value S i c.loop-number.hits _ _ c.loop-number.invariant _ _ p-is m-is _ c.compare.ensures.some-word-matches in
     let next : Built (hits_at B c.args.value S) c.if-compare.hits (i + 1) =
     elim c.if-compare.branch [
       | then-compare y ↦ subst (λ h. Built (hits_at B c.args.value S) h (i + 1)) (sym y.hits-is) (built_set _ c.loop-number.hits i few (sym told ∙ y.if-compare.true) c.loop-number.invariant.built)
       | else-compare y ↦ subst (λ h. Built (hits_at B c.args.value S) h (i + 1)) (sym y.hits-is) (built_left _ c.loop-number.hits i (sym told ∙ y.if-compare.false) c.loop-number.invariant.built)
     ] in
-    asked-next B c.args.value S i c.loop-number.hits _ _ c.loop-number.invariant _ _ p-is m-is _ _ _ c.compare.ensures.build_stays c.compare.ensures.only-counted next
+    asked_next B c.args.value S i c.loop-number.hits _ _ c.loop-number.invariant _ _ p-is m-is _ _ _ c.compare.ensures.build_stays c.compare.ensures.only-counted next
 
 pub returns : goal.returns
 returns g c =

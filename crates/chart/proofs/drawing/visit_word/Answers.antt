@@ -1,7 +1,7 @@
 use Rattle.std.proofs.Common.{◌≡◌, ℕ, min, true, false}
 use Rattle.cam.specs.Patterns.{equal_bits}
 use Rattle.chart.proofs.Columns.{equal_at}
-use Rattle.chart.proofs.Visits.{Hits, visit-answers, visit-did}
+use Rattle.chart.proofs.Visits.{Hits, visit_answers, visit_did}
 use Rattle.chart.proofs.drawing.visit_word.Goals as goal
 
 pub returns : goal.returns
@@ -34,13 +34,13 @@ returns g c =
     let h6 : Hits (m.build x5) true (m.state x5) c.hits-by-column-zero1.result (m.build x6) (m.state x6) = let told = c.hits-by-column-zero1.ensures in record { each = told.hit-of-each-column; bits = told.bits-stay; marks = told.marks_stay; ends = told.state-after; stays = told.build_stays } in
     let h9 : Hits (m.build x8) true (m.state x8) c.hits-by-column-one1.result (m.build x9) (m.state x9) = let told = c.hits-by-column-one1.ensures in record { each = told.hit-of-each-column; bits = told.bits-stay; marks = told.marks_stay; ends = told.state-after; stays = told.build_stays } in
     let h10 : Hits (m.build x9) false (m.state x9) c.hits-by-column-one0.result (m.build x10) (m.state x10) = let told = c.hits-by-column-one0.ensures in record { each = told.hit-of-each-column; bits = told.bits-stay; marks = told.marks_stay; ends = told.state-after; stays = told.build_stays } in
-    let did = visit-did (m.build x0) (m.build x1) (m.build x2) (m.build x3) (m.build x4) (m.build x5) (m.build x6) (m.build x7) (m.build x8) (m.build x9) (m.build x10) (m.build x11) (m.state x0) (m.state x1) (m.state x2) (m.state x3) (m.state x4) (m.state x5) (m.state x6) (m.state x7) (m.state x8) (m.state x9) (m.state x10) (m.state x11)
+    let did = visit_did (m.build x0) (m.build x1) (m.build x2) (m.build x3) (m.build x4) (m.build x5) (m.build x6) (m.build x7) (m.build x8) (m.build x9) (m.build x10) (m.build x11) (m.state x0) (m.state x1) (m.state x2) (m.state x3) (m.state x4) (m.state x5) (m.state x6) (m.state x7) (m.state x8) (m.state x9) (m.state x10) (m.state x11)
     c.args.word.number c.equal-bits.result c.equal-bits-3.result c.hits-by-column-zero0.result c.hits-by-column-zero1.result c.hits-by-column-one1.result c.hits-by-column-one0.result
     (pattern c.equal-bits.result c.equal-bits.ensures.pattern) (pattern c.equal-bits-3.result c.equal-bits-3.ensures.pattern)
     w1.state-after-write w1.build_stays w2.state-after-write w2.build_stays rz.only-counted rz.build_stays cs.only-counted cs.build_stays
     h5 h6 w3.state-after-write w3.build_stays ro.only-counted ro.build_stays h9 h10 er.state-after-erase er.build_stays in
     record {
-      answers-of-the-word = visit-answers (m.build x0) (m.build x1) (m.build x2) (m.build x3) (m.build x4) (m.build x5) (m.build x6) (m.build x7) (m.build x8) (m.build x9) (m.build x10) (m.build x11) (m.state x0) (m.state x1) (m.state x2) (m.state x3) (m.state x4) (m.state x5) (m.state x6) (m.state x7) (m.state x8) (m.state x9) (m.state x10) (m.state x11)
+      answers-of-the-word = visit_answers (m.build x0) (m.build x1) (m.build x2) (m.build x3) (m.build x4) (m.build x5) (m.build x6) (m.build x7) (m.build x8) (m.build x9) (m.build x10) (m.build x11) (m.state x0) (m.state x1) (m.state x2) (m.state x3) (m.state x4) (m.state x5) (m.state x6) (m.state x7) (m.state x8) (m.state x9) (m.state x10) (m.state x11)
           c.args.word.number c.equal-bits.result c.equal-bits-3.result c.hits-by-column-zero0.result c.hits-by-column-zero1.result c.hits-by-column-one1.result c.hits-by-column-one0.result
           (pattern c.equal-bits.result c.equal-bits.ensures.pattern) (pattern c.equal-bits-3.result c.equal-bits-3.ensures.pattern)
           w1.state-after-write w1.build_stays w2.state-after-write w2.build_stays rz.only-counted rz.build_stays cs.only-counted cs.build_stays

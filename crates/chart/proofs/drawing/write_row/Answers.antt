@@ -2,7 +2,7 @@ use Rattle.std.proofs.Common.{◌≡◌, ℕ, ◌+◌, ◌<◌, ◌≤◌, Bool,
 use Rattle.std.proofs.lemmas.Bool.{lt-ltb, le-ltb, cond-true, cond-false}
 use Rattle.chart.specs.Bytes.{byte_of}
 use Rattle.chart.specs.Chart.{Row, count_below}
-use Rattle.chart.proofs.Rows.{row_more, row-past}
+use Rattle.chart.proofs.Rows.{row_more, row_past}
 use Rattle.chart.proofs.drawing.write_row.Goals as goal
 use Rattle.chart.proofs.drawing.write_row.Goals.{then-place-buffer, else-place-buffer, then-byte-gt0, else-byte-gt0}
 
@@ -19,7 +19,7 @@ loop-number-preserved c =
     let row : Row r start (i + 1) old c.if-place-buffer.buffer =
     elim c.if-place-buffer.branch [
       | then-place-buffer y ↦ subst (Row r start (i + 1) old) (sym y.buffer-is) (row_more r start old i _ c.loop-number.buffer y.if-place-buffer.true byte inv.0)
-      | else-place-buffer y ↦ subst (Row r start (i + 1) old) (sym y.buffer-is) (row-past r start old i c.loop-number.buffer y.if-place-buffer.false inv.0)
+      | else-place-buffer y ↦ subst (Row r start (i + 1) old) (sym y.buffer-is) (row_past r start old i c.loop-number.buffer y.if-place-buffer.false inv.0)
     ] in
     let counts : (c.if-byte-gt0.blemished ≡ count_below (i + 1) f) × (c.if-byte-gt0.blemished ≤ i + 1) =
     elim c.if-byte-gt0.branch [

@@ -5,7 +5,7 @@ use Rattle.words.specs.Listings.{lexed, too_few, other}
 use Rattle.words.proofs.Parts.{token_ahead}
 use Rattle.words.proofs.Rules.{pinned}
 use Rattle.sheet_operations.specs.Questions.{ElementRoom}
-use Rattle.sheets.proofs.Growing.{start, one_more, taken, room_taken, finished, stopped, refused-piece, read_room}
+use Rattle.sheets.proofs.Growing.{start, one_more, taken, room_taken, finished, stopped, refused_piece, read_room}
 use Rattle.sheets.proofs.Ones.{element_one}
 use Rattle.sheets.proofs.element.read_element.Goals as goal
 
@@ -52,7 +52,7 @@ returns-in-err-parsed c =
     let p = err_from_is_err_and c.from-residual-in-err-parsed.result c.from-residual-in-err-parsed.ensures.1 in
     let room = subst (λ n. ElementRoom n c.args.bracket (Ok tt)) c.element-count.ensures.how-many-elements c.in-ok-check-room.ensures.reading.reads in
     rw (p.1, p.2)
-    record { reading = pinned (element_one _ _ _ _ _) (stopped c.loop-token.invariant _ _ room (refused-piece c.loop-token.invariant c.in-ok-token.ensures.reading.reads c.in-Open.is c.in-err-parsed.ensures.reading.reads)); ahead = tt; name-stays = c.loop-token.invariant.name ∙ c.in-ok-add-element.ensures.name-stays }
+    record { reading = pinned (element_one _ _ _ _ _) (stopped c.loop-token.invariant _ _ room (refused_piece c.loop-token.invariant c.in-ok-token.ensures.reading.reads c.in-Open.is c.in-err-parsed.ensures.reading.reads)); ahead = tt; name-stays = c.loop-token.invariant.name ∙ c.in-ok-add-element.ensures.name-stays }
 
 pub returns-in-err-add-operation : goal.returns-in-err-add-operation
 returns-in-err-add-operation c =

@@ -6,7 +6,7 @@ use Rattle.march.specs.Tests.{meant}
 use Rattle.march.specs.Building.{order_of, operations_of}
 use Rattle.march.proofs.Table.{operations_few}
 use Rattle.sheet_writer.specs.Sheets.{heading, operation_piece}
-use Rattle.test_sheets.proofs.Joins.{found, not_past, length-step}
+use Rattle.test_sheets.proofs.Joins.{found, not_past, length_step}
 use Rattle.test_sheets.proofs.Bytes.{heading_short, operation_short, line_length}
 use Rattle.test_sheets.proofs.lengths.line_length.Goals as goal
 
@@ -30,7 +30,7 @@ loop-at-preserved c =
     let o = c.in-Some.operation in
     let l : i < length os = omega (arith, c.operation-count-at-end.ensures.how-many-operations) in
     let piece : length c.operation-piece.result.now ≡ length (operation_piece o) = ap length c.operation-piece.ensures.piece-of-operation in
-    let step = length-step operation_piece os i o l (found os i o l c.in-Some.ensures.operation-at-place) in
+    let step = length_step operation_piece os i o l (found os i o l c.in-Some.ensures.operation-at-place) in
     let inv = c.loop-at.invariant in
     (omega arith, omega (arith, operation_short o))
 

@@ -6,7 +6,7 @@ use Rattle.march.specs.Tests.{meant}
 use Rattle.march.specs.Table.{elements_of, name_of}
 use Rattle.march.proofs.Table.{bare, elements_few}
 use Rattle.sheet_writer.specs.Sheets.{element_line}
-use Rattle.test_sheets.proofs.Joins.{length-step, mapped_at}
+use Rattle.test_sheets.proofs.Joins.{length_step, mapped_at}
 use Rattle.test_sheets.proofs.Bytes.{sheet_length}
 use Rattle.test_sheets.proofs.lengths.sheet_length.Goals as goal
 
@@ -34,7 +34,7 @@ loop-element-preserved c =
     let l : i < length es = c.loop-element-test.true in
     let inside : i < length (map meant es) = omega (arith, length-map es meant) in
     let line = c.line-length-bytes.ensures.length-of-line in
-    let step = length-step element_line (map meant es) i (meant (get_or es i bare)) inside (mapped_at meant es i bare l) in
+    let step = length_step element_line (map meant es) i (meant (get_or es i bare)) inside (mapped_at meant es i bare l) in
     let inv = c.loop-element.invariant in
     (omega arith, omega (arith, c.line-length-bytes.ensures.short-line))
 

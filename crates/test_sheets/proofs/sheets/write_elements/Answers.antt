@@ -7,8 +7,8 @@ use Rattle.march.specs.Building.{operations_of, is_filled}
 use Rattle.march.proofs.Table.{bare}
 use Rattle.sheet_writer.specs.Sheets.{element_line}
 use Rattle.sheet_writer.specs.Writing.{between}
-use Rattle.test_sheets.proofs.Joins.{mapped_at, every_at, joined-within}
-use Rattle.test_sheets.proofs.Written.{pieces_none, pieces_more, pieces-all}
+use Rattle.test_sheets.proofs.Joins.{mapped_at, every_at, joined_within}
+use Rattle.test_sheets.proofs.Written.{pieces_none, pieces_more, pieces_all}
 use Rattle.test_sheets.proofs.sheets.write_elements.Goals as goal
 
 pub loop-element-init : goal.loop-element-init
@@ -29,7 +29,7 @@ write-element-state-requires c =
     record {
       few-elements = omega (arith, inv.1, c.requires.few-elements);
       some-operation = leb-true 1 n (and_parts (leb 1 n) (leb n 8) filled).0;
-      room = omega (arith, inv.0.place, joined-within element_line (map meant es) i e inside is, c.loop-element.auto.buffer, c.requires.room);
+      room = omega (arith, inv.0.place, joined_within element_line (map meant es) i e inside is, c.loop-element.auto.buffer, c.requires.room);
     }
 
 pub loop-element-preserved : goal.loop-element-preserved
@@ -43,7 +43,7 @@ loop-element-preserved c =
     let is = mapped_at meant es i bare l in
     let wrote = c.write-element-state.ensures in
     let room : c.args.state.at + length (flat_map element_line (take i (map meant es))) + length (element_line e) ≤ length c.args.buffer.now =
-    omega (arith, joined-within element_line (map meant es) i e inside is, c.requires.room) in (
+    omega (arith, joined_within element_line (map meant es) i e inside is, c.requires.room) in (
       pieces_more element_line c.args.state.at (map meant es) c.args.buffer.now i c.loop-element.buffer c.write-element-state.new.buffer
           c.loop-element.state.at c.write-element-state.result.at e
           inv.0 inside is room (ap (λ s. s.at) wrote.state-after) wrote.line-written,
@@ -56,7 +56,7 @@ returns c =
     let s = c.args.state in
     let inv = c.loop-element.invariant in
     let end : c.loop-element.element-index ≡ length es = omega (arith, c.loop-element.auto.element-index-end) in
-    let both = pieces-all element_line s.at (map meant es) c.args.buffer.now c.loop-element.element-index c.loop-element.buffer c.loop-element.state.at
+    let both = pieces_all element_line s.at (map meant es) c.args.buffer.now c.loop-element.element-index c.loop-element.buffer c.loop-element.state.at
     inv.0 (omega (arith, length-map es meant)) in
     let counted : c.loop-element.state.elements ≡ s.elements + length es = inv.1 ∙ ap (λ (n : ℕ). s.elements + n) end in
     record { lines-written = both.1; state-after = λ j. between (both.0 j) (counted j) }

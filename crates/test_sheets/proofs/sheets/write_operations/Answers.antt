@@ -6,8 +6,8 @@ use Rattle.march.specs.Tests.{meant}
 use Rattle.march.specs.Building.{operations_of}
 use Rattle.march.proofs.Table.{operations_few}
 use Rattle.sheet_writer.specs.Sheets.{operation_piece}
-use Rattle.test_sheets.proofs.Joins.{found, not_past, joined-within}
-use Rattle.test_sheets.proofs.Written.{pieces_none, pieces_more, pieces-all, operation_granted}
+use Rattle.test_sheets.proofs.Joins.{found, not_past, joined_within}
+use Rattle.test_sheets.proofs.Written.{pieces_none, pieces_more, pieces_all, operation_granted}
 use Rattle.test_sheets.proofs.sheets.write_operations.Goals as goal
 
 pub loop-at-init : goal.loop-at-init
@@ -32,7 +32,7 @@ unreachable-requires-in-Err c =
     let is = found os i o l c.in-Some.ensures.operation-at-place in
     let kept : length c.loop-at.buffer ≡ length c.args.buffer.now = c.loop-at.auto.buffer in
     let room : c.loop-at.state.at + length (operation_piece o) ≤ length c.loop-at.buffer =
-    omega (arith, joined-within operation_piece os i o l is, inv.0.place, c.requires.room) in
+    omega (arith, joined_within operation_piece os i o l is, inv.0.place, c.requires.room) in
     refused_not_0 _ _ c.in-Err.ensures.asks-in-order
     (operation_granted e i c.loop-at.buffer c.loop-at.state o (inv.1 ∙ c.requires.same-order) inv.3 (operations_few c.args.element.now) l is room)
 
@@ -45,7 +45,7 @@ loop-at-preserved c =
     let l : i < length os = omega (arith, c.operation-count-at-end.ensures.how-many-operations) in
     let is = found os i o l c.in-Some.ensures.operation-at-place in
     let room : c.args.state.at + length (flat_map operation_piece (take i os)) + length (operation_piece o) ≤ length c.args.buffer.now =
-    omega (arith, joined-within operation_piece os i o l is, c.requires.room) in
+    omega (arith, joined_within operation_piece os i o l is, c.requires.room) in
     let wrote = c.in-Ok.ensures.operation-written in (
       pieces_more operation_piece c.args.state.at os c.args.buffer.now i c.loop-at.buffer c.write.new.buffer c.loop-at.state.at c.in-Ok.next.at o
           inv.0 l is room (ap (λ s. s.at) wrote.0) wrote.1,
@@ -59,7 +59,7 @@ returns c =
     let os = operations_of (meant c.args.element.now) in
     let inv = c.loop-at.invariant in
     let end : c.loop-at.at ≡ length os = omega (arith, c.operation-count-at-end.ensures.how-many-operations, c.loop-at.auto.at_end) in
-    let both = pieces-all operation_piece c.args.state.at os c.args.buffer.now c.loop-at.at c.loop-at.buffer c.loop-at.state.at inv.0 (omega arith) in
+    let both = pieces_all operation_piece c.args.state.at os c.args.buffer.now c.loop-at.at c.loop-at.buffer c.loop-at.state.at inv.0 (omega arith) in
     let counted = inv.3 ∙ end in
     record {
       operations-written = both.1;

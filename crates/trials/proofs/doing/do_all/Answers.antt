@@ -2,7 +2,7 @@ use Rattle.std.proofs.Common.{min, map, get_or, sym, refl, ◌∙◌, arith}
 use Rattle.march.specs.declared.element.Element.{Element}
 use Rattle.march.specs.Tests.{meant}
 use Rattle.march.proofs.Lengths.{per_visit_few}
-use Rattle.mlt1.proofs.Lefts.{left_step, left-visit, left-element, left_end, operation-few}
+use Rattle.mlt1.proofs.Lefts.{left_step, left_visit, left_element, left_end, operation_few}
 use Rattle.trials.proofs.Elements.{beyond, element_at, none_past, steps_few}
 use Rattle.trials.proofs.Outlooks.{outlook_step, outlook_at, outlook_end, outlook_room, whole_is}
 use Rattle.trials.proofs.doing.do_all.Goals as goal
@@ -30,14 +30,14 @@ overflow-add-operation g c =
     let n = c.words-words.result in
     let w = min c.width-width.result 64 in
     let r : Element = get_or c.elements-element-items.result.now c.loop-element.element-index beyond in
-    omega (arith, operation-few n w (meant r) c.loop-visit.visit c.loop-step.operation _ c.in-Some.ensures.step-of-visit, per_visit_few r)
+    omega (arith, operation_few n w (meant r) c.loop-visit.visit c.loop-step.operation _ c.in-Some.ensures.step-of-visit, per_visit_few r)
 
 pub loop-step-smaller : goal.loop-step-smaller
 loop-step-smaller g c =
     let n = c.words-words.result in
     let w = min c.width-width.result 64 in
     let r : Element = get_or c.elements-element-items.result.now c.loop-element.element-index beyond in
-    omega (arith, operation-few n w (meant r) c.loop-visit.visit c.loop-step.operation _ c.in-Some.ensures.step-of-visit, per_visit_few r)
+    omega (arith, operation_few n w (meant r) c.loop-visit.visit c.loop-step.operation _ c.in-Some.ensures.step-of-visit, per_visit_few r)
 
 pub loop-step-preserved : goal.loop-step-preserved
 loop-step-preserved g c =
@@ -69,7 +69,7 @@ loop-visit-preserved g c =
     let r : Element = get_or rs i beyond in
     let at = element_at rs (map meant rs) i beyond refl c.loop-element-test.true in
     let none = c.in-default.ensures.step-of-visit in
-    sym (outlook_at _ _ _ _ _ _ (left-visit n w (map meant rs) i (meant r) c.loop-visit.visit c.loop-step.operation at none (omega (arith, c.loop-visit-test.true, c.visits-visit-end.ensures.visit-count))))
+    sym (outlook_at _ _ _ _ _ _ (left_visit n w (map meant rs) i (meant r) c.loop-visit.visit c.loop-step.operation at none (omega (arith, c.loop-visit-test.true, c.visits-visit-end.ensures.visit-count))))
     ∙ c.loop-step.invariant ∙ c.loop-visit.invariant
 
 pub loop-element-preserved : goal.loop-element-preserved
@@ -80,7 +80,7 @@ loop-element-preserved g c =
     let rs = c.elements-element-items.result.now in
     let r : Element = get_or rs i beyond in
     let at = element_at rs (map meant rs) i beyond refl c.loop-element-test.true in
-    sym (outlook_at _ _ _ _ _ _ (left-element n w (map meant rs) i (meant r) c.loop-visit.visit 0 at (omega (arith, c.loop-visit-test.false, c.visits-visit-end.ensures.visit-count))))
+    sym (outlook_at _ _ _ _ _ _ (left_element n w (map meant rs) i (meant r) c.loop-visit.visit 0 at (omega (arith, c.loop-visit-test.false, c.visits-visit-end.ensures.visit-count))))
     ∙ c.loop-visit.invariant ∙ c.loop-element.invariant
 
 pub returns : goal.returns

@@ -2,7 +2,7 @@ use Rattle.std.proofs.Common.{◌≡◌, ℕ, ◌<◌, ◌≤◌, Bool, true, fa
 use Rattle.cam.specs.Refusals.{Refused, reason_number}
 use Rattle.cell_field.specs.Field.{used_words, is_stuck, mark_at}
 use Rattle.cell_field.specs.declared.mark.Mark.TheVariants.{Clear, Stuck}
-use Rattle.cell_field.proofs.Meanings.{few_words, plant-state, plant-build, asks-outside, asks-stuck}
+use Rattle.cell_field.proofs.Meanings.{few_words, plant-state, plant-build, asks_outside, asks_stuck}
 use Rattle.cell_field.proofs.field.CellField.plant_stuck_mark.Goals as goal
 
 pub returns-then-word-used-words : goal.returns-then-word-used-words
@@ -10,7 +10,7 @@ returns-then-word-used-words g c =
     let s = c.args.self.now in
     let past : used_words s.words s.width (length s.cells.now) ≤ c.args.word.number = omega (arith, c.used-words.ensures.words-used) in
     record {
-      asks-word-then-mark = subst (λ (n : ℕ). Refused n c.of-call.result) (sym (asks-outside g.C.CellKind.meaning s.words s.width s.cells.now s.marks c.args.word.number past)) c.of-call.ensures.refused-without-text;
+      asks-word-then-mark = subst (λ (n : ℕ). Refused n c.of-call.result) (sym (asks_outside g.C.CellKind.meaning s.words s.width s.cells.now s.marks c.args.word.number past)) c.of-call.ensures.refused-without-text;
       cells_stay = refl;
       words-stay = refl;
       width-stays = refl;
@@ -26,7 +26,7 @@ returns-then-is-stuck g c =
     let inside : a < used_words s.words s.width (length s.cells.now) = omega (arith, c.used-words.ensures.words-used) in
     record {
       asks-word-then-mark = subst (λ (n : ℕ). Refused n c.of-call-then-is-stuck.result)
-          (sym (asks-stuck g.C.CellKind.meaning s.words s.width s.cells.now s.marks a inside true (sym c.if-is-stuck.true ∙ c.is-stuck.ensures.stuck)))
+          (sym (asks_stuck g.C.CellKind.meaning s.words s.width s.cells.now s.marks a inside true (sym c.if-is-stuck.true ∙ c.is-stuck.ensures.stuck)))
           c.of-call-then-is-stuck.ensures.refused-without-text;
       cells_stay = refl;
       words-stay = refl;
@@ -47,7 +47,7 @@ returns g c =
     let inside : a < used_words s.words s.width l = omega (arith, c.used-words.ensures.words-used) in
     let room : a < length s.marks = omega (arith, few_words s.words s.width l) in
     record {
-      asks-word-then-mark = asks-stuck f s.words s.width xs s.marks a inside false (sym c.if-is-stuck.false ∙ c.is-stuck.ensures.stuck);
+      asks-word-then-mark = asks_stuck f s.words s.width xs s.marks a inside false (sym c.if-is-stuck.false ∙ c.is-stuck.ensures.stuck);
       cells_stay = refl;
       words-stay = refl;
       width-stays = refl;

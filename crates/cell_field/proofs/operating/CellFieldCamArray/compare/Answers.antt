@@ -3,7 +3,7 @@ use Rattle.cam.specs.Model.{hit, any_below}
 use Rattle.cam.proofs.Below.{any_same}
 use Rattle.cell_field.specs.declared.mark.Mark.TheVariants.{Clear}
 use Rattle.cell_field.specs.Field.{is_set, row_matches, used_words, used_bits, field_build, field_state}
-use Rattle.cell_field.proofs.Meanings.{few_words, all_inside, bits_used, some_match, build-of, state-of, count_state}
+use Rattle.cell_field.proofs.Meanings.{few_words, all_inside, bits_used, some_match, build_of, state_of, count_state}
 use Rattle.cell_field.proofs.operating.CellFieldCamArray.compare.Goals as goal
 
 pub any-lent-row-matches-requires : goal.any-lent-row-matches-requires
@@ -33,7 +33,7 @@ returns g c =
           ∙ ap (λ (n : ℕ). any_below n (row s.width)) c.used-words-words.ensures.words-used
           ∙ any_same n (row s.width) (row w) (λ k h. ap (λ (w : ℕ). row w k) (sym (bits_used s.words s.width l k h)))
           ∙ some_match n w (map f xs) s.marks s.tally p m
-          ∙ ap₂ (λ B S. hit B p m S) (sym (build-of f s.words s.width xs s.marks)) (sym (state-of f s.words s.width xs s.marks s.tally));
+          ∙ ap₂ (λ B S. hit B p m S) (sym (build_of f s.words s.width xs s.marks)) (sym (state_of f s.words s.width xs s.marks s.tally));
       only-counted = ap₂ (λ ys t. field_state (map f ys) s.words s.width s.marks t) stay c.one-more-self.ensures.next ∙ count_state (map f xs) s.words s.width s.marks s.tally;
       build_stays = ap (λ ys. field_build (map f ys) s.words s.width s.marks) stay;
     }

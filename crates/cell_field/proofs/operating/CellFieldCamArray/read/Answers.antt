@@ -2,7 +2,7 @@ use Rattle.std.proofs.Common.{◌≡◌, ℕ, ◌<◌, ◌≤◌, ltb, map, leng
 use Rattle.std.proofs.lemmas.Bool.{cond-false, le-ltb}
 use Rattle.cam.specs.Model.{read_word, one_more}
 use Rattle.cell_field.specs.Field.{used_words, field_build, field_state}
-use Rattle.cell_field.proofs.Meanings.{few_bits, row_inside, read-inside, build-inside, state-inside, build-of, count_state}
+use Rattle.cell_field.proofs.Meanings.{few_bits, row_inside, read_inside, build-inside, state-inside, build_of, count_state}
 use Rattle.cell_field.proofs.operating.CellFieldCamArray.read.Goals as goal
 
 pub read-lent-row-requires : goal.read-lent-row-requires
@@ -24,7 +24,7 @@ returns-then-word-used-words g c =
     let inside : a < n = omega (arith, c.used-words.ensures.words-used) in
     let stay = c.read-lent-row.ensures.cells_stay in
     record {
-      held-bits = c.read-lent-row.ensures.held-bits ∙ read-inside n s.width (map f xs) s.marks s.tally a inside
+      held-bits = c.read-lent-row.ensures.held-bits ∙ read_inside n s.width (map f xs) s.marks s.tally a inside
           ∙ ap₂ (λ B S. read_word B a S) (sym (build-inside f s.words s.width a l inside xs s.marks refl)) (sym (state-inside f s.words s.width a l inside xs s.marks s.tally refl));
       only-counted = ap₂ (λ ys t. field_state (map f ys) s.words s.width s.marks t) stay c.one-more-self.ensures.next ∙ count_state (map f xs) s.words s.width s.marks s.tally;
       build_stays = ap (λ ys. field_build (map f ys) s.words s.width s.marks) stay;
@@ -39,7 +39,7 @@ returns-else-word-used-words g c =
     let a = c.args.word.number in
     let past : used_words s.words s.width l ≤ a = omega (arith, c.used-words.ensures.words-used) in
     record {
-      held-bits = sym (ap (λ B. read_word B a (field_state (map f xs) s.words s.width s.marks s.tally)) (build-of f s.words s.width xs s.marks) ∙ cond-false (ltb a (used_words s.words s.width l)) _ _ (le-ltb a _ past));
+      held-bits = sym (ap (λ B. read_word B a (field_state (map f xs) s.words s.width s.marks s.tally)) (build_of f s.words s.width xs s.marks) ∙ cond-false (ltb a (used_words s.words s.width l)) _ _ (le-ltb a _ past));
       only-counted = ap (field_state (map f xs) s.words s.width s.marks) c.one-more-self.ensures.next ∙ count_state (map f xs) s.words s.width s.marks s.tally;
       build_stays = refl;
     }

@@ -3,7 +3,7 @@ use Rattle.march.specs.Tests.{meant}
 use Rattle.march.proofs.Lengths.{per_visit_few}
 use Rattle.mlt1.specs.Mlt1.{mlt1}
 use Rattle.mlt1.specs.Left.{left_of}
-use Rattle.mlt1.proofs.Lefts.{left_step, left-visit, left-element, left_end, operation-few}
+use Rattle.mlt1.proofs.Lefts.{left_step, left_visit, left_element, left_end, operation_few}
 use Rattle.mlt1.proofs.state.RunState.next_step.Goals as goal
 use Rattle.mlt1.proofs.state.RunState.next_step.Goals.{then-self-visits, else-self-visits}
 
@@ -19,7 +19,7 @@ returns-in-Some-step c =
       what-is-left-stays = c.loop-element.invariant.0;
       first-that-is-left = (
         left_step n w mlt1 s.element (meant r) s.visit s.operation at _ found,
-        omega (arith, operation-few n w (meant r) s.visit s.operation _ found, per_visit_few r),
+        omega (arith, operation_few n w (meant r) s.visit s.operation _ found, per_visit_few r),
       );
       place-stays = c.loop-element.invariant.1;
       misses-stay = c.loop-element.invariant.2;
@@ -36,14 +36,14 @@ loop-element-preserved c =
     elim c.if-self-visits.branch [
       | then-self-visits y ↦ (
         ap (λ t. left_of n w t.element t.visit 0) y.self-is
-            ∙ sym (left-visit n w mlt1 s.element (meant r) s.visit s.operation at none (omega (arith, y.if-self-visits.true, c.visits.ensures.visit-count)))
+            ∙ sym (left_visit n w mlt1 s.element (meant r) s.visit s.operation at none (omega (arith, y.if-self-visits.true, c.visits.ensures.visit-count)))
             ∙ c.loop-element.invariant.0,
         ap (λ t. t.place) y.self-is ∙ c.loop-element.invariant.1,
         ap (λ t. t.misses) y.self-is ∙ c.loop-element.invariant.2,
       )
       | else-self-visits y ↦ (
         ap (λ t. left_of n w t.element t.visit 0) y.self-is
-            ∙ sym (left-element n w mlt1 s.element (meant r) s.visit s.operation at (omega (arith, y.if-self-visits.false, c.visits.ensures.visit-count)))
+            ∙ sym (left_element n w mlt1 s.element (meant r) s.visit s.operation at (omega (arith, y.if-self-visits.false, c.visits.ensures.visit-count)))
             ∙ c.loop-element.invariant.0,
         ap (λ t. t.place) y.self-is ∙ c.loop-element.invariant.1,
         ap (λ t. t.misses) y.self-is ∙ c.loop-element.invariant.2,

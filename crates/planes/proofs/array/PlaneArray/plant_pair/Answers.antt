@@ -5,7 +5,7 @@ use Rattle.cam.specs.Defects.{has_cell}
 use Rattle.cam.proofs.Asking.{both_yes}
 use Rattle.planes.specs.Word.{wrong_of}
 use Rattle.planes.specs.Planes.{build_of}
-use Rattle.planes.proofs.Rows.{record_read, build-with-pair, state-stays}
+use Rattle.planes.proofs.Rows.{record_read, build_with_pair, state_stays}
 use Rattle.planes.proofs.array.PlaneArray.plant_pair.Goals as goal
 
 pub returns : goal.returns
@@ -26,8 +26,8 @@ returns c =
     record {
       asks-place-then-pair = both_yes _ _ 42 43 cell
           (ap (λ y. not (wrong_of y j h b)) (sym (record_read n rs a _ fits inside c.index.ensures)) ∙ ap not (sym c.if-is-wrong.ensures.pair-in-wrong-set));
-      only-this-pair-planted = build-with-pair n rs a _ _ fits inside read s.width j h b
+      only-this-pair-planted = build_with_pair n rs a _ _ fits inside read s.width j h b
           done.wrong-set-of-column done.storage-stays done.stuck-stays;
-      state-stays = state-stays n rs a _ _ fits inside read s.width s.tally (done.held-bits-stay s.width) done.mark-stays;
+      state_stays = state_stays n rs a _ _ fits inside read s.width s.tally (done.held-bits-stay s.width) done.mark-stays;
       later-records-stay = record { words = refl; later = drop-set-lt n rs a _ inside };
     }

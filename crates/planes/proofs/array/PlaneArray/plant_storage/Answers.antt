@@ -5,7 +5,7 @@ use Rattle.cam.specs.Defects.{has_cell, is_good, storage_with}
 use Rattle.cam.proofs.Asking.{both_yes}
 use Rattle.planes.specs.Word.{storage_of}
 use Rattle.planes.specs.Planes.{build_of}
-use Rattle.planes.proofs.Rows.{record_read, build-with-storage, state-settled}
+use Rattle.planes.proofs.Rows.{record_read, build_with_storage, state_settled}
 use Rattle.planes.proofs.array.PlaneArray.plant_storage.Goals as goal
 
 pub returns-in-Good : goal.returns-in-Good
@@ -24,9 +24,9 @@ returns-in-Good c =
     record {
       asks-place-then-storage = both_yes _ _ 42 43 cell
           (ap (λ y. is_good (storage_of y j)) (sym (record_read n rs a _ fits inside c.index.ensures)) ∙ ap is_good (sym c.in-Good.ensures.storage-of-column));
-      only-this-defect-planted = build-with-storage n rs a _ _ fits inside read s.width j (storage_with c.args.defect)
+      only-this-defect-planted = build_with_storage n rs a _ _ fits inside read s.width j (storage_with c.args.defect)
           done.storage-of-column done.wrong-sets-stay done.stuck-stays;
-      only-held-bit-settled = state-settled n rs a _ _ fits inside read s.width s.tally j (storage_with c.args.defect)
+      only-held-bit-settled = state_settled n rs a _ _ fits inside read s.width s.tally j (storage_with c.args.defect)
           (λ i. done.held-bits s.width i (ltb-true j s.width both.1) s.few_bits) done.mark-stays;
       later-records-stay = record { words = refl; later = drop-set-lt n rs a _ inside };
     }

@@ -2,7 +2,7 @@ use Rattle.std.proofs.Common.{◌≡◌, ◌<◌, ◌≤◌, not, length, vec_it
 use Rattle.std.proofs.lemmas.List.{drop-set-lt}
 use Rattle.std.proofs.lemmas.Bool.{lt-ltb}
 use Rattle.cam.proofs.Asking.{both_yes}
-use Rattle.planes.proofs.Rows.{record_read, build-with-stuck-mark, state-unmarked}
+use Rattle.planes.proofs.Rows.{record_read, build_with_stuck_mark, state_unmarked}
 use Rattle.planes.proofs.array.PlaneArray.plant_stuck_mark.Goals as goal
 
 pub returns : goal.returns
@@ -18,7 +18,7 @@ returns c =
     record {
       asks-place-then-mark = both_yes _ _ 42 43 (lt-ltb a n inside)
           (ap (λ y. not y.stuck) (sym (record_read n rs a _ fits inside c.index.ensures)) ∙ ap not c.if-index.false);
-      only-this-mark-planted = build-with-stuck-mark n rs a _ _ fits inside read s.width done.stuck done.storage-stays done.wrong-sets-stay;
-      only-this-mark-cleared = state-unmarked n rs a _ _ fits inside read s.width s.tally done.mark-clear (done.held-bits-stay s.width);
+      only-this-mark-planted = build_with_stuck_mark n rs a _ _ fits inside read s.width done.stuck done.storage-stays done.wrong-sets-stay;
+      only-this-mark-cleared = state_unmarked n rs a _ _ fits inside read s.width s.tally done.mark-clear (done.held-bits-stay s.width);
       later-records-stay = record { words = refl; later = drop-set-lt n rs a _ inside };
     }

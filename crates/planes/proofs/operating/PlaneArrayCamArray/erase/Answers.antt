@@ -1,7 +1,7 @@
 use Rattle.std.proofs.Common.{◌≡◌, ◌<◌, ◌≤◌, length, vec_items, sym, refl, ap, ◌∙◌, ap₂, arith}
 use Rattle.cam.proofs.Outside.{erased_outside}
 use Rattle.planes.specs.Planes.{build_from, state_from}
-use Rattle.planes.proofs.Rows.{erase-inside, build-same}
+use Rattle.planes.proofs.Rows.{erase_inside, build_same}
 use Rattle.planes.proofs.operating.PlaneArrayCamArray.erase.Goals as goal
 use Rattle.planes.proofs.operating.PlaneArrayCamArray.erase.Goals.{then-word-self, else-word-self}
 
@@ -21,8 +21,8 @@ returns c =
           let e = ap (λ s. s.1.0) y.self-is in
           record {
             state-after-erase = ap₂ (λ v t. state_from n w (vec_items v) t) e counted
-                ∙ erase-inside n rs a _ _ fits inside read w s.tally (λ j. refl) refl;
-            build_stays = ap (λ v. build_from n w (vec_items v)) e ∙ build-same n rs a _ _ fits inside read w refl;
+                ∙ erase_inside n rs a _ _ fits inside read w s.tally (λ j. refl) refl;
+            build_stays = ap (λ v. build_from n w (vec_items v)) e ∙ build_same n rs a _ _ fits inside read w refl;
           }
       | else-word-self y ↦
           let e = ap (λ s. s.1.0) y.self-is in

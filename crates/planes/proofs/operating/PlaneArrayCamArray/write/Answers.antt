@@ -1,7 +1,7 @@
 use Rattle.std.proofs.Common.{◌≡◌, ◌<◌, ◌≤◌, length, vec_items, sym, ap, ◌∙◌, ap₂, arith}
 use Rattle.cam.proofs.Outside.{written_outside}
 use Rattle.planes.specs.Planes.{build_from, state_from}
-use Rattle.planes.proofs.Rows.{write-inside, build-same}
+use Rattle.planes.proofs.Rows.{write_inside, build_same}
 use Rattle.planes.proofs.operating.PlaneArrayCamArray.write.Goals as goal
 use Rattle.planes.proofs.operating.PlaneArrayCamArray.write.Goals.{then-word-self, else-word-self}
 
@@ -24,8 +24,8 @@ returns c =
           let e = ap (λ s. s.1.0) y.self-is in
           record {
             state-after-write = ap₂ (λ v t. state_from n w (vec_items v) t) e counted
-                ∙ write-inside n rs a _ _ fits inside read w s.tally p m (λ j. done.cells w j s.few_bits) done.mark-set-unless-stuck;
-            build_stays = ap (λ v. build_from n w (vec_items v)) e ∙ build-same n rs a _ _ fits inside read w done.defects-stay;
+                ∙ write_inside n rs a _ _ fits inside read w s.tally p m (λ j. done.cells w j s.few_bits) done.mark-set-unless-stuck;
+            build_stays = ap (λ v. build_from n w (vec_items v)) e ∙ build_same n rs a _ _ fits inside read w done.defects-stay;
           }
       | else-word-self y ↦
           let e = ap (λ s. s.1.0) y.self-is in
