@@ -1,4 +1,6 @@
 // The bench: what a tester drives. It holds one array, and hands out operations, runs of MLT-1 and charts.
+#![tactic(auto)]
+
 pub mod bench;
 pub mod books;
 pub mod calls;

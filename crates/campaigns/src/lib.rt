@@ -1,4 +1,6 @@
 // Campaigns: how many of the places at which a fault can be does a test detect?
+#![tactic(auto)]
+
 pub mod campaign;
 pub mod detecting;
 pub mod examining;

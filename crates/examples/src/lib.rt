@@ -1,2 +1,4 @@
 // Worked examples, proved over the same definitions as the contracts of the calls.
+#![tactic(auto)]
+
 pub mod columns;

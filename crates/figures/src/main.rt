@@ -1,4 +1,6 @@
 // Campaigns of MLT-1, and of MLT-1 without its columns elements, as figures; and a trial of the second.
+#![tactic(auto)]
+
 use cam::defect::Pair;
 use cam::fault::Fault;
 use cam::index::{ColumnIndex, WordIndex};

@@ -1,4 +1,6 @@
 // Judges an array and prints what it found. So far the array is one of its own, with two defects.
+#![tactic(auto)]
+
 use bench::judging::{Judged, Judgement, NotJudged, judge_array};
 use cam::defect::{Pair, StorageDefect};
 use cam::fault::Fault;

@@ -1,4 +1,6 @@
 // Judges the array that a text on standard input describes, and prints what it found, or why the text is refused.
+#![tactic(auto)]
+
 use anyhow::anyhow;
 use array_text::array::{NotRead, RECORDS};
 use bench::judging::{Judged, Judgement};

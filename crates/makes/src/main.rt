@@ -1,5 +1,7 @@
 // Judges arrays of different makes: the same defects in a plane array and in a field of table cells, and a field of
 // transistor cells with each single transistor stuck.
+#![tactic(auto)]
+
 use anyhow::anyhow;
 use bench::judging::{Judged, Judgement, NotJudged, judge_array};
 use cam::array::CamArray;

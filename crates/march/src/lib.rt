@@ -1,5 +1,7 @@
 // Tests in the march notation: elements of operations with what is expected of their answers, and the steps that an
 // element does on an array.
+#![tactic(auto)]
+
 pub mod element;
 pub mod few;
 pub mod name;

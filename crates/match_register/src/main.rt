@@ -1,5 +1,7 @@
 // An example for makers of arrays: a match register, put on the bench as it is. Copy this crate, put your own array in
 // place of the register, and prove the same contracts for it.
+#![tactic(auto)]
+
 mod operating;
 mod register;
 

@@ -1,3 +1,5 @@
 // The lines that the judge prints, each made in the caller's buffer.
+#![tactic(auto)]
+
 pub mod lines;
 pub mod pieces;

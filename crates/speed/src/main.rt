@@ -1,5 +1,7 @@
 // The works of the speed comparison (docs/PERFORMANCE.md), done by the product's calls. Usage: speed [WORK REPEATS]. It
 // does the work that often and prints a checksum of all results; without arguments it does each work once.
+#![tactic(auto)]
+
 mod checksum;
 mod coverage;
 mod judgement;

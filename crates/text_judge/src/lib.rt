@@ -1,2 +1,4 @@
 // Judging the array that a text describes.
+#![tactic(auto)]
+
 pub mod judging;

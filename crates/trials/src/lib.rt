@@ -1,4 +1,6 @@
 // Trials: a test done on an array outside any bench, with a byte for each read or compare.
+#![tactic(auto)]
+
 pub mod counting;
 pub mod doing;
 pub mod result;

@@ -1,5 +1,7 @@
 // Answers test cases. Each case of the input is done by the public calls of the libraries, and its answer is printed, so
 // that it can be compared with what an independent program prints (reference/README.md has the format).
+#![tactic(auto)]
+
 mod arrays;
 mod bench_calls;
 mod bench_cases;
