@@ -23,7 +23,7 @@ APART = {
 }
 
 # names that an import gives to another crate's definition
-IMPORTED_AS = {"Chart-in": "ChartIn"}
+IMPORTED_AS = {"Chart-in": "ChartIn", "Line-defect": "LineDefect", "outcomesOf": "outcomes_of", "tenthsOf": "tenths_of"}
 
 STOPS = r"\s(){}\[\],.;`"
 

@@ -4,7 +4,7 @@ ghost use Rattle.cam.specs.declared.fault.Reason.TheVariants.{DefectRepeated};
 ghost use Rattle.planes.specs.Planes.{KeepsLater};
 ghost use Rattle.array_lines.specs.Cells.{Inside};
 ghost use Rattle.words.specs.Forms.{meaning_fault};
-ghost use Rattle.array_lines.specs.declared.cell.Defect.{Defect as Line-defect};
+ghost use Rattle.array_lines.specs.declared.cell.Defect.{Defect as LineDefect};
 ghost use Rattle.array_text.specs.Left.{Holds, PlantingLeaves};
 
 use array_lines::cell::Defect;
@@ -24,7 +24,7 @@ fn repeated(bracket: usize) -> Fault
 
 // Plants a defect inside the array, unless an earlier line described it (43).
 pub(crate) fn plant(array: &mut PlaneArray, defect: Defect, bracket: usize) -> Result<(), Fault>
-    ensures new_or_repeated { (N W : ℕ) (ds : List Line-defect) → Holds N W ds array.old → Inside N W defect → PlantingLeaves N W ds defect bracket array.new result }
+    ensures new_or_repeated { (N W : ℕ) (ds : List LineDefect) → Holds N W ds array.old → Inside N W defect → PlantingLeaves N W ds defect bracket array.new result }
     ensures later_records_stay { KeepsLater array.old array.new }
 {
     match defect {

@@ -4,7 +4,7 @@ ghost use Rattle.cam.specs.Buffers.{over};
 ghost use Rattle.cam.specs.Operations.{operated};
 ghost use Rattle.march.specs.Tests.{after};
 ghost use Rattle.march.specs.Table.{elements_of};
-ghost use Rattle.trials.specs.Outcomes.{is_check, outcomes as outcomesOf, check_count};
+ghost use Rattle.trials.specs.Outcomes.{is_check, outcomes as outcomes_of, check_count};
 ghost use Rattle.trials.specs.Trials.{steps_on, Answers, logged, noted};
 
 use crate::counting::is_check;
@@ -47,7 +47,7 @@ fn do_step<C: CamArray>(array: &mut C, step: Step, buffer: &mut [u8], log: Log) 
 pub(crate) fn do_all<C: CamArray>(test: &Test, array: &mut C, buffer: &mut [u8]) -> Log
     requires room { check_count (steps_on (build array.old) (elements_of test.now)) ≤ length buffer.old }
     ensures operations_and_misses { Answers (build array.old) (elements_of test.now) (state array.old) result }
-    ensures outcome_bytes { buffer.new ≡ over buffer.old 0 (outcomesOf (build array.old) (steps_on (build array.old) (elements_of test.now)) (state array.old)) }
+    ensures outcome_bytes { buffer.new ≡ over buffer.old 0 (outcomes_of (build array.old) (steps_on (build array.old) (elements_of test.now)) (state array.old)) }
     ensures state_after { state array.new ≡ after (build array.old) (steps_on (build array.old) (elements_of test.now)) (state array.old) }
     ensures build_stays { build array.new ≡ build array.old }
 {

@@ -5,7 +5,7 @@ ghost use Rattle.cam.specs.Refusals.{Asks};
 ghost use Rattle.march.specs.Tests.{after};
 ghost use Rattle.march.specs.Table.{elements_of};
 ghost use Rattle.mlt1.specs.Mlt1.{mlt1};
-ghost use Rattle.trials.specs.Outcomes.{outcomes as outcomesOf, OutcomeLaws};
+ghost use Rattle.trials.specs.Outcomes.{outcomes as outcomes_of, OutcomeLaws};
 ghost use Rattle.trials.specs.Trials.{steps_on, trial_questions, trial_of, TellsAsARun};
 
 use crate::counting::outcome_count;
@@ -26,7 +26,7 @@ pub fn trial<C: CamArray>(
 ) -> Result<TrialResult, Fault>
     ensures asks_room { Asks (trial_questions (build array.old) (elements_of test.now) (length buffer.old)) result }
     ensures operations_and_misses { MatchResult result (λ t. t ≡ trial_of (build array.old) (elements_of test.now) (state array.old)) (λ _. array.new ≡ array.old) }
-    ensures outcome_bytes { MatchResult result (λ _. buffer.new ≡ over buffer.old 0 (outcomesOf (build array.old) (steps_on (build array.old) (elements_of test.now)) (state array.old))) (λ _. buffer.new ≡ buffer.old) }
+    ensures outcome_bytes { MatchResult result (λ _. buffer.new ≡ over buffer.old 0 (outcomes_of (build array.old) (steps_on (build array.old) (elements_of test.now)) (state array.old))) (λ _. buffer.new ≡ buffer.old) }
     ensures state_after { MatchResult result (λ _. state array.new ≡ after (build array.old) (steps_on (build array.old) (elements_of test.now)) (state array.old)) (λ _. array.new ≡ array.old) }
     ensures build_stays { build array.new ≡ build array.old }
     ensures mlt1_tells_as_a_run { elements_of test.now ≡ mlt1 → IfOk result (λ t. TellsAsARun (build array.old) (state array.old) t) }
