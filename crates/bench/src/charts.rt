@@ -17,12 +17,12 @@ impl<C: CamArray> Bench<C> {
     // Draws the chart at the front of a buffer, if no run is in hand (51), the buffer has a byte for each cell (57) and
     // the tally stays within the limit (54).
     pub fn chart(&mut self, buffer: &mut [u8]) -> Result<Finding, Fault>
-        ensures asks_in_order { Asks (chart_questions (build self.old.array) (state self.old.array) self.old.books (length buffer.old)) result }
-        ensures blemished_cells { MatchResult result (λ f. f ≡ Charted (blemishes (build self.old.array))) (λ _. self.new ≡ self.old) }
-        ensures every_byte { MatchResult result (λ _. ChartIn (build self.old.array) buffer.old buffer.new) (λ _. buffer.new ≡ buffer.old) }
-        ensures charted_or_unchanged { MatchResult result (λ _. self.new.books ≡ charted (blemishes (build self.old.array)) self.old.books) (λ _. self.new ≡ self.old) }
-        ensures operated_or_unchanged { MatchResult result (λ _. state self.new.array ≡ after_all (build self.old.array) (chart_operations (build self.old.array).words (build self.old.array).width) (state self.old.array)) (λ _. self.new ≡ self.old) }
-        ensures build_stays { build self.new.array ≡ build self.old.array }
+        ensures asks_in_order { Asks (chart_questions (C.build self.old.array) (C.state self.old.array) self.old.books (length buffer.old)) result }
+        ensures blemished_cells { MatchResult result (λ f. f ≡ Charted (blemishes (C.build self.old.array))) (λ _. self.new ≡ self.old) }
+        ensures every_byte { MatchResult result (λ _. ChartIn (C.build self.old.array) buffer.old buffer.new) (λ _. buffer.new ≡ buffer.old) }
+        ensures charted_or_unchanged { MatchResult result (λ _. self.new.books ≡ charted (blemishes (C.build self.old.array)) self.old.books) (λ _. self.new ≡ self.old) }
+        ensures operated_or_unchanged { MatchResult result (λ _. C.state self.new.array ≡ after_all (C.build self.old.array) (chart_operations (C.build self.old.array).words (C.build self.old.array).width) (C.state self.old.array)) (λ _. self.new ≡ self.old) }
+        ensures build_stays { C.build self.new.array ≡ C.build self.old.array }
     {
         if self.books.running {
             return Err(Fault::of_call(Reason::RunInHand));

@@ -15,8 +15,8 @@ use cam::operation::Operation;
 const CHART_BYTES: usize = 16_384;
 
 fn perform_by_hand<C: CamArray>(bench: &mut Bench<C>, operation: Operation)
-    ensures call_performed { Performs (build bench.old.array) 0 (ByHand operation) (desk (state bench.old.array) bench.old.books) (desk (state bench.new.array) bench.new.books) }
-    ensures build_stays { build bench.new.array ≡ build bench.old.array }
+    ensures call_performed { Performs (C.build bench.old.array) 0 (ByHand operation) (desk (C.state bench.old.array) bench.old.books) (desk (C.state bench.new.array) bench.new.books) }
+    ensures build_stays { C.build bench.new.array ≡ C.build bench.old.array }
 {
     match operation {
         Operation::Write {
@@ -40,8 +40,8 @@ fn perform_by_hand<C: CamArray>(bench: &mut Bench<C>, operation: Operation)
 
 // Draws a chart into a buffer of so many bytes, at most one for each cell of the largest array.
 fn perform_chart<C: CamArray>(bench: &mut Bench<C>, bytes: usize)
-    ensures call_performed { Performs (build bench.old.array) chart_bytes (Chart bytes) (desk (state bench.old.array) bench.old.books) (desk (state bench.new.array) bench.new.books) }
-    ensures build_stays { build bench.new.array ≡ build bench.old.array }
+    ensures call_performed { Performs (C.build bench.old.array) chart_bytes (Chart bytes) (desk (C.state bench.old.array) bench.old.books) (desk (C.state bench.new.array) bench.new.books) }
+    ensures build_stays { C.build bench.new.array ≡ C.build bench.old.array }
 {
     let mut buffer = [0u8; CHART_BYTES];
     let room = bytes.min(CHART_BYTES);
@@ -50,8 +50,8 @@ fn perform_chart<C: CamArray>(bench: &mut Bench<C>, bytes: usize)
 
 // One call. A ticket is made from the number that the call shows, and taken apart where it comes back.
 fn perform<C: CamArray>(bench: &mut Bench<C>, call: Call)
-    ensures call_performed { Performs (build bench.old.array) chart_bytes call (desk (state bench.old.array) bench.old.books) (desk (state bench.new.array) bench.new.books) }
-    ensures build_stays { build bench.new.array ≡ build bench.old.array }
+    ensures call_performed { Performs (C.build bench.old.array) chart_bytes call (desk (C.state bench.old.array) bench.old.books) (desk (C.state bench.new.array) bench.new.books) }
+    ensures build_stays { C.build bench.new.array ≡ C.build bench.old.array }
 {
     match call {
         Call::ByHand(operation) => perform_by_hand(bench, operation),
@@ -89,9 +89,9 @@ fn perform<C: CamArray>(bench: &mut Bench<C>, call: Call)
 // patterns and masks. Whatever the list, the three rules hold: the finding
 // is right, it is open exactly when no run was closed and no chart drawn, and the tally adds up.
 pub fn perform_all<C: CamArray>(array: C, calls: &[Call]) -> Bench<C>
-    ensures rules_hold { Rules (build array) (state array).tally (state result.array) result.books }
-    ensures every_call_performed { Performed (build array) chart_bytes calls.now (desk (state array) new_books) (desk (state result.array) result.books) }
-    ensures build_stays { build result.array ≡ build array }
+    ensures rules_hold { Rules (C.build array) (C.state array).tally (C.state result.array) result.books }
+    ensures every_call_performed { Performed (C.build array) chart_bytes calls.now (desk (C.state array) new_books) (desk (C.state result.array) result.books) }
+    ensures build_stays { C.build result.array ≡ C.build array }
 {
     let mut bench = Bench::new(array);
     for call in calls {

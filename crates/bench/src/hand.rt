@@ -16,13 +16,13 @@ use cam::operation::Operation;
 
 impl<C: CamArray> Bench<C> {
     fn has_word(&self, word: WordIndex) -> bool
-        ensures word_of_the_array { result ≡ nat_lt word.number (build self.now.array).words }
+        ensures word_of_the_array { result ≡ nat_lt word.number (C.build self.now.array).words }
     {
         word.number < self.array.words()
     }
 
     fn is_narrow(&self, pattern: u64, mask: u64) -> bool
-        ensures no_bit_past_the_width { result ≡ (narrow (build self.now.array) pattern && narrow (build self.now.array) mask) }
+        ensures no_bit_past_the_width { result ≡ (narrow (C.build self.now.array) pattern && narrow (C.build self.now.array) mask) }
     {
         let ones = low_ones(self.array.width());
         pattern <= ones && mask <= ones
@@ -30,14 +30,14 @@ impl<C: CamArray> Bench<C> {
 
     // Whether so many operations more stay within the limit.
     pub(crate) fn has_room(&self, operations: u32) -> bool
-        ensures within_the_limit { result ≡ room (state self.now.array) operations }
+        ensures within_the_limit { result ≡ room (C.state self.now.array) operations }
     {
         self.array.tally() + operations as u64 <= LIMIT
     }
 
     // Asks the questions of an operation by hand.
     fn may_operate(&self, operation: Operation) -> Result<(), Fault>
-        ensures asks_in_order { Asks (hand_questions (build self.now.array) (state self.now.array) self.now.books operation) result }
+        ensures asks_in_order { Asks (hand_questions (C.build self.now.array) (C.state self.now.array) self.now.books operation) result }
     {
         let (word_there, narrow_enough) = match operation {
             Operation::Write {
@@ -70,10 +70,10 @@ impl<C: CamArray> Bench<C> {
     }
 
     pub fn write(&mut self, word: WordIndex, pattern: u64, mask: u64) -> Result<(), Fault>
-        ensures asks_in_order { Asks (hand_questions (build self.old.array) (state self.old.array) self.old.books (Write word pattern mask)) result }
-        ensures written_or_unchanged { MatchResult result (λ _. state self.new.array ≡ written (build self.old.array) word.number pattern mask (state self.old.array)) (λ _. self.new ≡ self.old) }
+        ensures asks_in_order { Asks (hand_questions (C.build self.old.array) (C.state self.old.array) self.old.books (Write word pattern mask)) result }
+        ensures written_or_unchanged { MatchResult result (λ _. C.state self.new.array ≡ written (C.build self.old.array) word.number pattern mask (C.state self.old.array)) (λ _. self.new ≡ self.old) }
         ensures counted_or_unchanged { MatchResult result (λ _. self.new.books ≡ handled self.old.books) (λ _. self.new ≡ self.old) }
-        ensures build_stays { build self.new.array ≡ build self.old.array }
+        ensures build_stays { C.build self.new.array ≡ C.build self.old.array }
     {
         if let Err(fault) = self.may_operate(Operation::Write {
             word,
@@ -88,11 +88,11 @@ impl<C: CamArray> Bench<C> {
     }
 
     pub fn read(&mut self, word: WordIndex) -> Result<u64, Fault>
-        ensures asks_in_order { Asks (hand_questions (build self.old.array) (state self.old.array) self.old.books (Read word)) result }
-        ensures held_bits { MatchResult result (λ bits. bits ≡ read_word (build self.old.array) word.number (state self.old.array)) (λ _. self.new ≡ self.old) }
-        ensures tallied_or_unchanged { MatchResult result (λ _. state self.new.array ≡ counted (state self.old.array)) (λ _. self.new ≡ self.old) }
+        ensures asks_in_order { Asks (hand_questions (C.build self.old.array) (C.state self.old.array) self.old.books (Read word)) result }
+        ensures held_bits { MatchResult result (λ bits. bits ≡ read_word (C.build self.old.array) word.number (C.state self.old.array)) (λ _. self.new ≡ self.old) }
+        ensures tallied_or_unchanged { MatchResult result (λ _. C.state self.new.array ≡ counted (C.state self.old.array)) (λ _. self.new ≡ self.old) }
         ensures counted_or_unchanged { MatchResult result (λ _. self.new.books ≡ handled self.old.books) (λ _. self.new ≡ self.old) }
-        ensures build_stays { build self.new.array ≡ build self.old.array }
+        ensures build_stays { C.build self.new.array ≡ C.build self.old.array }
     {
         if let Err(fault) = self.may_operate(Operation::Read { word }) {
             return Err(fault);
@@ -103,11 +103,11 @@ impl<C: CamArray> Bench<C> {
     }
 
     pub fn compare(&mut self, pattern: u64, mask: u64) -> Result<bool, Fault>
-        ensures asks_in_order { Asks (hand_questions (build self.old.array) (state self.old.array) self.old.books (Compare pattern mask)) result }
-        ensures some_word_matches { MatchResult result (λ yes. yes ≡ hit (build self.old.array) pattern mask (state self.old.array)) (λ _. self.new ≡ self.old) }
-        ensures tallied_or_unchanged { MatchResult result (λ _. state self.new.array ≡ counted (state self.old.array)) (λ _. self.new ≡ self.old) }
+        ensures asks_in_order { Asks (hand_questions (C.build self.old.array) (C.state self.old.array) self.old.books (Compare pattern mask)) result }
+        ensures some_word_matches { MatchResult result (λ yes. yes ≡ hit (C.build self.old.array) pattern mask (C.state self.old.array)) (λ _. self.new ≡ self.old) }
+        ensures tallied_or_unchanged { MatchResult result (λ _. C.state self.new.array ≡ counted (C.state self.old.array)) (λ _. self.new ≡ self.old) }
         ensures counted_or_unchanged { MatchResult result (λ _. self.new.books ≡ handled self.old.books) (λ _. self.new ≡ self.old) }
-        ensures build_stays { build self.new.array ≡ build self.old.array }
+        ensures build_stays { C.build self.new.array ≡ C.build self.old.array }
     {
         if let Err(fault) = self.may_operate(Operation::Compare { pattern, mask }) {
             return Err(fault);
@@ -118,10 +118,10 @@ impl<C: CamArray> Bench<C> {
     }
 
     pub fn erase(&mut self, word: WordIndex) -> Result<(), Fault>
-        ensures asks_in_order { Asks (hand_questions (build self.old.array) (state self.old.array) self.old.books (Erase word)) result }
-        ensures erased_or_unchanged { MatchResult result (λ _. state self.new.array ≡ erased (build self.old.array) word.number (state self.old.array)) (λ _. self.new ≡ self.old) }
+        ensures asks_in_order { Asks (hand_questions (C.build self.old.array) (C.state self.old.array) self.old.books (Erase word)) result }
+        ensures erased_or_unchanged { MatchResult result (λ _. C.state self.new.array ≡ erased (C.build self.old.array) word.number (C.state self.old.array)) (λ _. self.new ≡ self.old) }
         ensures counted_or_unchanged { MatchResult result (λ _. self.new.books ≡ handled self.old.books) (λ _. self.new ≡ self.old) }
-        ensures build_stays { build self.new.array ≡ build self.old.array }
+        ensures build_stays { C.build self.new.array ≡ C.build self.old.array }
     {
         if let Err(fault) = self.may_operate(Operation::Erase { word }) {
             return Err(fault);

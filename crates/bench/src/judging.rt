@@ -38,7 +38,7 @@ pub struct NotJudged<C> {
 
 // Asks for a byte for each cell (57), and for room in the tally for a run and a chart (54).
 fn may_judge<C: CamArray>(array: &C, bytes: usize) -> Result<(), Fault>
-    ensures asks_in_order { Asks (judge_questions (build array.now) (state array.now) bytes) result }
+    ensures asks_in_order { Asks (judge_questions (C.build array.now) (C.state array.now) bytes) result }
 {
     let words = array.words();
     let width = array.width();
@@ -56,11 +56,11 @@ fn may_judge<C: CamArray>(array: &C, bytes: usize) -> Result<(), Fault>
 // Makes a bench over an array, runs MLT-1 on it and closes the run, and draws the chart at the front of a buffer. It
 // asks for a byte for each cell (57) and for room in the tally (54) before it does anything.
 pub fn judge_array<C: CamArray>(array: C, buffer: &mut [u8]) -> Result<Judged<C>, NotJudged<C>>
-    ensures asks_in_order { AsksIn (λ e. e.fault) (judge_questions (build array) (state array) (length buffer.old)) result }
-    ensures judgement_is_right { MatchResult result (λ j. Judges (build array) (state array) j.judgement) (λ e. e.array ≡ array) }
-    ensures every_byte { MatchResult result (λ _. ChartIn (build array) buffer.old buffer.new) (λ _. buffer.new ≡ buffer.old) }
-    ensures only_these_operations { MatchResult result (λ j. state j.array ≡ judged_state (build array) (state array)) (λ e. e.array ≡ array) }
-    ensures build_stays { MatchResult result (λ j. build j.array ≡ build array) (λ e. e.array ≡ array) }
+    ensures asks_in_order { AsksIn (λ e. e.fault) (judge_questions (C.build array) (C.state array) (length buffer.old)) result }
+    ensures judgement_is_right { MatchResult result (λ j. Judges (C.build array) (C.state array) j.judgement) (λ e. e.array ≡ array) }
+    ensures every_byte { MatchResult result (λ _. ChartIn (C.build array) buffer.old buffer.new) (λ _. buffer.new ≡ buffer.old) }
+    ensures only_these_operations { MatchResult result (λ j. C.state j.array ≡ judged_state (C.build array) (C.state array)) (λ e. e.array ≡ array) }
+    ensures build_stays { MatchResult result (λ j. C.build j.array ≡ C.build array) (λ e. e.array ≡ array) }
 {
     match may_judge(&array, buffer.len()) {
         Ok(()) => {}

@@ -15,7 +15,7 @@ use mlt1::table::operation_count;
 impl<C: CamArray> Bench<C> {
     // Starts a run at place 0, if none is in hand (51) and the tally and the starts stay within the limit (54).
     pub fn start(&mut self) -> Result<Ticket, Fault>
-        ensures asks_in_order { Asks (start_questions (build self.old.array) (state self.old.array) self.old.books) result }
+        ensures asks_in_order { Asks (start_questions (C.build self.old.array) (C.state self.old.array) self.old.books) result }
         ensures ticket_with_the_number_of_starts { MatchResult result (λ ticket. ticket.number ≡ self.new.books.starts) (λ _. self.new ≡ self.old) }
         ensures started_or_unchanged { MatchResult result (λ _. self.new.books ≡ started self.old.books) (λ _. self.new ≡ self.old) }
         ensures array_stays { self.new.array ≡ self.old.array }
@@ -45,10 +45,10 @@ impl<C: CamArray> Bench<C> {
     // Does the next operations of the run, at most `most`, if the ticket fits (55), and says how many.
     pub fn step(&mut self, ticket: &Ticket, most: u32) -> Result<u32, Fault>
         ensures asks_in_order { Asks (step_questions self.old.books ticket.now.number) result }
-        ensures most_or_all_left { MatchResult result (λ n. n ≡ min most (length (left (build self.old.array).words (build self.old.array).width self.old.books.run))) (λ _. self.new ≡ self.old) }
-        ensures next_steps_done { MatchResult result (λ n. Went (build self.old.array) n self.old.books.run self.new.books.run (state self.old.array) (state self.new.array)) (λ _. self.new ≡ self.old) }
+        ensures most_or_all_left { MatchResult result (λ n. n ≡ min most (length (left (C.build self.old.array).words (C.build self.old.array).width self.old.books.run))) (λ _. self.new ≡ self.old) }
+        ensures next_steps_done { MatchResult result (λ n. Went (C.build self.old.array) n self.old.books.run self.new.books.run (C.state self.old.array) (C.state self.new.array)) (λ _. self.new ≡ self.old) }
         ensures other_books_stay { self.new.books ≡ with_run self.new.books.run self.old.books }
-        ensures build_stays { build self.new.array ≡ build self.old.array }
+        ensures build_stays { C.build self.new.array ≡ C.build self.old.array }
     {
         if !self.fits(ticket.number) {
             return Err(Fault::of_call(Reason::TicketDoesNotFit));
@@ -61,7 +61,7 @@ impl<C: CamArray> Bench<C> {
 
     // Closes the run of the ticket (55) at its end (56): the finding is sound where no answer missed, else faulty.
     pub fn close(&mut self, ticket: Ticket) -> Result<Finding, NotClosed>
-        ensures asks_in_order { AsksIn (λ e. e.fault) (close_questions (build self.old.array) self.old.books ticket.number) result }
+        ensures asks_in_order { AsksIn (λ e. e.fault) (close_questions (C.build self.old.array) self.old.books ticket.number) result }
         ensures finding_of_the_misses { MatchResult result (λ f. f ≡ found self.old.books.run.misses) (λ e. e.ticket ≡ ticket) }
         ensures closed_or_unchanged { MatchResult result (λ _. self.new.books ≡ closed self.old.books) (λ _. self.new ≡ self.old) }
         ensures array_stays { self.new.array ≡ self.old.array }

@@ -17,12 +17,12 @@ impl<C: CamArray> Bench<C> {
     // Starts a run (51, 54), does all of it and closes it. What it finds is right, whatever the array held and whatever
     // was done before.
     pub fn run_whole(&mut self) -> Result<Finding, Fault>
-        ensures asks_in_order { Asks (start_questions (build self.old.array) (state self.old.array) self.old.books) result }
-        ensures finding_of_the_misses { MatchResult result (λ f. f ≡ found (misses (build self.old.array) (schedule (build self.old.array).words (build self.old.array).width mlt1) (state self.old.array))) (λ _. self.new ≡ self.old) }
-        ensures sound_exactly_without_a_defect { MatchResult result (λ f. (finding_number f ≡ 1) ↔ Sound (build self.old.array)) (λ _. self.new ≡ self.old) }
+        ensures asks_in_order { Asks (start_questions (C.build self.old.array) (C.state self.old.array) self.old.books) result }
+        ensures finding_of_the_misses { MatchResult result (λ f. f ≡ found (misses (C.build self.old.array) (schedule (C.build self.old.array).words (C.build self.old.array).width mlt1) (C.state self.old.array))) (λ _. self.new ≡ self.old) }
+        ensures sound_exactly_without_a_defect { MatchResult result (λ f. (finding_number f ≡ 1) ↔ Sound (C.build self.old.array)) (λ _. self.new ≡ self.old) }
         ensures one_run_more { MatchResult result (λ f. self.new.books ≡ ran_whole f self.old.books) (λ _. self.new ≡ self.old) }
-        ensures state_after_the_schedule { MatchResult result (λ _. state self.new.array ≡ after (build self.old.array) (schedule (build self.old.array).words (build self.old.array).width mlt1) (state self.old.array)) (λ _. self.new ≡ self.old) }
-        ensures build_stays { build self.new.array ≡ build self.old.array }
+        ensures state_after_the_schedule { MatchResult result (λ _. C.state self.new.array ≡ after (C.build self.old.array) (schedule (C.build self.old.array).words (C.build self.old.array).width mlt1) (C.state self.old.array)) (λ _. self.new ≡ self.old) }
+        ensures build_stays { C.build self.new.array ≡ C.build self.old.array }
     {
         let operations = operation_count(self.array.words(), self.array.width());
         let ticket = match self.start() {

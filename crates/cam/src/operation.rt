@@ -35,10 +35,10 @@ pub enum Answer {
 
 // Does one operation.
 pub fn operate<C: CamArray>(array: &mut C, operation: Operation) -> Answer
-    ensures answer { result ≡ answered (build array.old) operation (state array.old) }
+    ensures answer { result ≡ answered (C.build array.old) operation (C.state array.old) }
     ensures sort_of_answer { answer_number result ≡ answer_sort operation }
-    ensures state_after { state array.new ≡ operated (build array.old) operation (state array.old) }
-    ensures build_stays { build array.new ≡ build array.old }
+    ensures state_after { C.state array.new ≡ operated (C.build array.old) operation (C.state array.old) }
+    ensures build_stays { C.build array.new ≡ C.build array.old }
 {
     match operation {
         Operation::Write {
@@ -61,10 +61,10 @@ pub fn operate<C: CamArray>(array: &mut C, operation: Operation) -> Answer
 // Does each operation of a list in turn. Whatever the list, the words, the bits and every defect stay, sa0 cells,
 // sa1 cells and stuck marks keep their value, and the tally rises by one for each operation up to its cap.
 pub fn operate_all<C: CamArray>(array: &mut C, operations: &[Operation])
-    ensures state_after { state array.new ≡ after_all (build array.old) operations.now (state array.old) }
-    ensures build_stays { build array.new ≡ build array.old }
-    ensures steady_stays { Steady (build array.old) (state array.new) }
-    ensures tally_rises { (state array.new).tally ≡ min ((state array.old).tally + length operations.now) tally_cap }
+    ensures state_after { C.state array.new ≡ after_all (C.build array.old) operations.now (C.state array.old) }
+    ensures build_stays { C.build array.new ≡ C.build array.old }
+    ensures steady_stays { Steady (C.build array.old) (C.state array.new) }
+    ensures tally_rises { (C.state array.new).tally ≡ min ((C.state array.old).tally + length operations.now) tally_cap }
     ensures steadiness_of_the_model { SteadinessStays }
 {
     for operation in operations {

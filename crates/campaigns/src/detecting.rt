@@ -11,9 +11,9 @@ use march::test::Test;
 
 // Does the test on the array up to its first miss, and says whether there was one.
 pub fn detects<C: CamArray>(test: &Test, array: &mut C) -> bool
-    ensures some_step_misses { result ≡ nat_lt 0 (misses (build array.old) (steps_on (build array.old) (elements_of test.now)) (state array.old)) }
-    ensures left_at_the_first_miss { state array.new ≡ after (build array.old) (until_miss (build array.old) (steps_on (build array.old) (elements_of test.now)) (state array.old)) (state array.old) }
-    ensures build_stays { build array.new ≡ build array.old }
+    ensures some_step_misses { result ≡ nat_lt 0 (misses (C.build array.old) (steps_on (C.build array.old) (elements_of test.now)) (C.state array.old)) }
+    ensures left_at_the_first_miss { C.state array.new ≡ after (C.build array.old) (until_miss (C.build array.old) (steps_on (C.build array.old) (elements_of test.now)) (C.state array.old)) (C.state array.old) }
+    ensures build_stays { C.build array.new ≡ C.build array.old }
 {
     let words = array.words();
     let width = array.width();

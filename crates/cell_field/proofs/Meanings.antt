@@ -186,15 +186,15 @@ module _ {X : Type 0} (f : X → CellMeaning) (N W : ℕ) where
     -- a write to word a
     module _ (p m t : ℕ) (xs ys : List X) (marks : List Mark) (mark : Mark) (old : length xs ≡ l) (new : length ys ≡ l)
         (wrote : (i : ℕ) → at (map f ys) i ≡ wrote_at (a * W) W p m (map f xs) i)
-        (room : a < length marks) (set-unless-stuck : is_set mark ≡ mark_after_write (is_stuck (get_or marks a Clear)) (is_set (get_or marks a Clear)))
-        (stuck-stays : is_stuck mark ≡ is_stuck (get_or marks a Clear)) where
+        (room : a < length marks) (set_unless_stuck : is_set mark ≡ mark_after_write (is_stuck (get_or marks a Clear)) (is_set (get_or marks a Clear)))
+        (stuck_stays : is_stuck mark ≡ is_stuck (get_or marks a Clear)) where
       pub write-state : field_state (map f ys) N W (set marks a mark) (one_more t) ≡ written (field_build (map f xs) N W marks) a p m (field_state (map f xs) N W marks t)
       write-state =
           let n : ℕ = used_words N W l in
           state-inside ys (set marks a mark) (one_more t) new
           ∙ (λ d. record {
             held = λ k j. held_after n W a p m (map f xs) (map f ys) inside wrote k j d;
-            mark = λ k. marks_after n a marks mark inside room is_set (λ y. mark_after_write (is_stuck y) (is_set y)) set-unless-stuck k d;
+            mark = λ k. marks_after n a marks mark inside room is_set (λ y. mark_after_write (is_stuck y) (is_set y)) set_unless_stuck k d;
             tally = tally_more t d;
           })
           ∙ ap₂ (λ B S. written B a p m S) (sym (build-inside xs marks old)) (sym (state-inside xs marks t old))
@@ -208,7 +208,7 @@ module _ {X : Type 0} (f : X → CellMeaning) (N W : ℕ) where
             width = W;
             storage = λ k j. storage_after n W a p m (map f xs) (map f ys) inside wrote k j d;
             wrong = λ k j. wrong_after n W a p m (map f xs) (map f ys) inside wrote k j d;
-            stuck = λ k. marks_stay n a marks mark inside room is_stuck stuck-stays k d;
+            stuck = λ k. marks_stay n a marks mark inside room is_stuck stuck_stays k d;
           })
           ∙ sym (build-inside xs marks old)
 
@@ -226,14 +226,14 @@ module _ {X : Type 0} (f : X → CellMeaning) (N W : ℕ) where
           ∙ ap₂ (λ B S. erased B a S) (sym (build-inside xs marks old)) (sym (state-inside xs marks t old))
 
       pub erase-build : is_stuck mark ≡ is_stuck (get_or marks a Clear) → field_build (map f xs) N W (set marks a mark) ≡ field_build (map f xs) N W marks
-      erase-build stuck-stays =
+      erase-build stuck_stays =
           build-inside xs (set marks a mark) old
           ∙ (λ d. record {
             words = used_words N W l;
             width = W;
             storage = λ k j. (cell_at (used_words N W l) W (map f xs) k j).storage;
             wrong = λ k j. (cell_at (used_words N W l) W (map f xs) k j).wrong;
-            stuck = λ k. marks_stay (used_words N W l) a marks mark inside room is_stuck stuck-stays k d;
+            stuck = λ k. marks_stay (used_words N W l) a marks mark inside room is_stuck stuck_stays k d;
           })
           ∙ sym (build-inside xs marks old)
 

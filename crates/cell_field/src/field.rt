@@ -58,8 +58,8 @@ impl<'a, C: CellKind> CellField<'a, C> {
     ) -> Result<CellField<'a, C>, NotMade<'a, C>>
         ensures asks_size_then_cells { AsksIn (λ e. e.fault) (ask (within_limits words width) 41 ∷ ask (nat_le (words * width) (length cells.old)) 57 ∷ []) result }
         ensures cells_as_lent { MatchResult result (λ f. f.cells.now ≡ cells.old) (λ e. e.cells.now ≡ cells.old) }
-        ensures made_of_the_cells { MatchResult result (λ f. field_build (map meaning f.cells.now) f.words f.width f.marks ≡ build_from words width (map meaning cells.old) []) (λ e. e.cells.now ≡ cells.old) }
-        ensures marks_clear { MatchResult result (λ f. field_state (map meaning f.cells.now) f.words f.width f.marks f.tally ≡ state_from words width (map meaning cells.old) [] 0) (λ e. e.cells.now ≡ cells.old) }
+        ensures made_of_the_cells { MatchResult result (λ f. field_build (map C.meaning f.cells.now) f.words f.width f.marks ≡ build_from words width (map C.meaning cells.old) []) (λ e. e.cells.now ≡ cells.old) }
+        ensures marks_clear { MatchResult result (λ f. field_state (map C.meaning f.cells.now) f.words f.width f.marks f.tally ≡ state_from words width (map C.meaning cells.old) [] 0) (λ e. e.cells.now ≡ cells.old) }
     {
         if words < 1 || words > 256 || width < 1 || width > 64 {
             return Err(NotMade {
@@ -85,13 +85,13 @@ impl<'a, C: CellKind> CellField<'a, C> {
     // Makes the mark of a word stuck, and so clear. It asks whether the word is inside the array (42), then whether its
     // mark is not stuck yet (43); a refused call leaves cells and marks as they are.
     pub fn plant_stuck_mark(&mut self, word: WordIndex) -> Result<(), Fault>
-        ensures asks_word_then_mark { Asks (ask (has_word (field_build (map meaning self.old.cells.now) self.old.words self.old.width self.old.marks) word.number) 42 ∷ ask (not ((field_build (map meaning self.old.cells.now) self.old.words self.old.width self.old.marks).stuck word.number)) 43 ∷ []) result }
+        ensures asks_word_then_mark { Asks (ask (has_word (field_build (map C.meaning self.old.cells.now) self.old.words self.old.width self.old.marks) word.number) 42 ∷ ask (not ((field_build (map C.meaning self.old.cells.now) self.old.words self.old.width self.old.marks).stuck word.number)) 43 ∷ []) result }
         ensures cells_stay { self.new.cells.now ≡ self.old.cells.now }
         ensures words_stay { self.new.words ≡ self.old.words }
         ensures width_stays { self.new.width ≡ self.old.width }
         ensures tally_stays { self.new.tally ≡ self.old.tally }
-        ensures only_this_mark_planted { MatchResult result (λ _. field_build (map meaning self.new.cells.now) self.new.words self.new.width self.new.marks ≡ with_stuck_mark word.number (field_build (map meaning self.old.cells.now) self.old.words self.old.width self.old.marks)) (λ _. self.new.marks ≡ self.old.marks) }
-        ensures only_this_mark_cleared { MatchResult result (λ _. field_state (map meaning self.new.cells.now) self.new.words self.new.width self.new.marks self.new.tally ≡ unmarked word.number (field_state (map meaning self.old.cells.now) self.old.words self.old.width self.old.marks self.old.tally)) (λ _. self.new.marks ≡ self.old.marks) }
+        ensures only_this_mark_planted { MatchResult result (λ _. field_build (map C.meaning self.new.cells.now) self.new.words self.new.width self.new.marks ≡ with_stuck_mark word.number (field_build (map C.meaning self.old.cells.now) self.old.words self.old.width self.old.marks)) (λ _. self.new.marks ≡ self.old.marks) }
+        ensures only_this_mark_cleared { MatchResult result (λ _. field_state (map C.meaning self.new.cells.now) self.new.words self.new.width self.new.marks self.new.tally ≡ unmarked word.number (field_state (map C.meaning self.old.cells.now) self.old.words self.old.width self.old.marks self.old.tally)) (λ _. self.new.marks ≡ self.old.marks) }
     {
         if word.number >= used_words(self.words, self.width, self.cells.len()) {
             return Err(Fault::of_call(Reason::OutsideArray));

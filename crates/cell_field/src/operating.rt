@@ -11,11 +11,11 @@ use cam::tally::{TALLY_CAP, one_more};
 use cells::kind::CellKind;
 
 impl<C: CellKind> CamArray for CellField<'_, C> {
-    ghost build = { λ f. field_build (map C.CellKind.meaning f.cells.now) f.words f.width f.marks };
+    ghost build = { λ f. field_build (map C.meaning f.cells.now) f.words f.width f.marks };
 
-    ghost state = { λ f. field_state (map C.CellKind.meaning f.cells.now) f.words f.width f.marks f.tally };
+    ghost state = { λ f. field_state (map C.meaning f.cells.now) f.words f.width f.marks f.tally };
 
-    ghost formed = { λ f. field_formed C.CellKind.meaning C.CellKind.steady f.cells.now f.words f.width f.marks f.tally };
+    ghost formed = { λ f. field_formed C.meaning C.steady f.cells.now f.words f.width f.marks f.tally };
 
     fn words(&self) -> u16 {
         used_words(self.words, self.width, self.cells.len())

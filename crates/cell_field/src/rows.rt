@@ -12,7 +12,7 @@ use cells::kind::CellKind;
 fn read_row<C: CellKind>(cells: &[C], start: usize, width: u8) -> u64
     requires few_bits { width ≤ 64 }
     requires inside { start + width ≤ length cells.now }
-    ensures held_bits { result ≡ value width (λ j. (at (map meaning cells.now) (start + j)).held) }
+    ensures held_bits { result ≡ value width (λ j. (at (map C.meaning cells.now) (start + j)).held) }
 {
     let mut bits = 0u64;
     for column in 0..width {
@@ -26,7 +26,7 @@ fn read_row<C: CellKind>(cells: &[C], start: usize, width: u8) -> u64
 // Whether each cell of a word that is not blocked matches.
 fn row_matches<C: CellKind>(cells: &[C], start: usize, width: u8, pattern: u64, mask: u64) -> bool
     requires inside { start + width ≤ length cells.now }
-    ensures each_cell_matches { result ≡ row_matches start width pattern mask (map meaning cells.now) }
+    ensures each_cell_matches { result ≡ row_matches start width pattern mask (map C.meaning cells.now) }
 {
     for column in 0..width {
         if !bit_is_set(mask, column) {
@@ -48,7 +48,7 @@ pub(crate) fn write_row<C: CellKind>(
     mask: u64,
 )
     requires inside { start + width ≤ length cells.old }
-    ensures cells_of_the_row_written { (i : ℕ) → at (map meaning cells.new) i ≡ wrote_at start width pattern mask (map meaning cells.old) i }
+    ensures cells_of_the_row_written { (i : ℕ) → at (map C.meaning cells.new) i ≡ wrote_at start width pattern mask (map C.meaning cells.old) i }
 {
     for column in 0..width {
         if !bit_is_set(mask, column) {
@@ -69,7 +69,7 @@ fn any_row_matches<C: CellKind>(
 ) -> bool
     requires few_words { words ≤ 256 }
     requires inside { words * width ≤ length cells.now }
-    ensures some_row { result ≡ any_below words (λ k. is_set (slice_index_or marks.now k Clear) && row_matches (k * width) width pattern mask (map meaning cells.now)) }
+    ensures some_row { result ≡ any_below words (λ k. is_set (slice_index_or marks.now k Clear) && row_matches (k * width) width pattern mask (map C.meaning cells.now)) }
 {
     for word in 0..words {
         let place = word as usize;
@@ -86,7 +86,7 @@ fn any_row_matches<C: CellKind>(
 pub(crate) fn read_lent_row<C: CellKind>(cells: &mut [C], start: usize, width: u8) -> u64
     requires few_bits { width ≤ 64 }
     requires inside { start + width ≤ length cells.old }
-    ensures held_bits { result ≡ value width (λ j. (at (map meaning cells.old) (start + j)).held) }
+    ensures held_bits { result ≡ value width (λ j. (at (map C.meaning cells.old) (start + j)).held) }
     ensures cells_stay { cells.new ≡ cells.old }
 {
     read_row(cells, start, width)
@@ -102,7 +102,7 @@ pub(crate) fn any_lent_row_matches<C: CellKind>(
 ) -> bool
     requires few_words { words ≤ 256 }
     requires inside { words * width ≤ length cells.old }
-    ensures some_row { result ≡ any_below words (λ k. is_set (slice_index_or marks.now k Clear) && row_matches (k * width) width pattern mask (map meaning cells.old)) }
+    ensures some_row { result ≡ any_below words (λ k. is_set (slice_index_or marks.now k Clear) && row_matches (k * width) width pattern mask (map C.meaning cells.old)) }
     ensures cells_stay { cells.new ≡ cells.old }
 {
     any_row_matches(cells, marks, words, width, pattern, mask)

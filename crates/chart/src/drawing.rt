@@ -26,11 +26,11 @@ pub fn operation_count(words: u16, width: u8) -> u32
 
 // The columns on which a compare of equal bits hits, every other column blocked.
 fn hits_by_column<C: CamArray>(array: &mut C, value: bool) -> u64
-    ensures hit_of_each_column { (j : ℕ) → j < (build array.old).width → bit result j ≡ hit (build array.old) (equal_bits (build array.old).width value) (all_but (build array.old).width j) (state array.old) }
-    ensures bits_stay { (state array.new).held ≡ (state array.old).held }
-    ensures marks_stay { (state array.new).mark ≡ (state array.old).mark }
-    ensures state_after { state array.new ≡ after_all (build array.old) (on_each_column (build array.old).width value) (state array.old) }
-    ensures build_stays { build array.new ≡ build array.old }
+    ensures hit_of_each_column { (j : ℕ) → j < (C.build array.old).width → bit result j ≡ hit (C.build array.old) (equal_bits (C.build array.old).width value) (all_but (C.build array.old).width j) (C.state array.old) }
+    ensures bits_stay { (C.state array.new).held ≡ (C.state array.old).held }
+    ensures marks_stay { (C.state array.new).mark ≡ (C.state array.old).mark }
+    ensures state_after { C.state array.new ≡ after_all (C.build array.old) (on_each_column (C.build array.old).width value) (C.state array.old) }
+    ensures build_stays { C.build array.new ≡ C.build array.old }
 {
     let width = array.width();
     let pattern = equal_bits(width, value);
@@ -45,9 +45,9 @@ fn hits_by_column<C: CamArray>(array: &mut C, value: bool) -> u64
 
 // Does what a chart does at a word, and gives the word's answers.
 fn visit_word<C: CamArray>(array: &mut C, word: WordIndex) -> Answers
-    ensures answers_of_the_word { Answered (build array.old) word.number (state array.old) result }
-    ensures state_after { state array.new ≡ after_all (build array.old) (word_operations (build array.old).width word.number) (state array.old) }
-    ensures build_stays { build array.new ≡ build array.old }
+    ensures answers_of_the_word { Answered (C.build array.old) word.number (C.state array.old) result }
+    ensures state_after { C.state array.new ≡ after_all (C.build array.old) (word_operations (C.build array.old).width word.number) (C.state array.old) }
+    ensures build_stays { C.build array.new ≡ C.build array.old }
 {
     let width = array.width();
     array.write(word, equal_bits(width, true), 0);
@@ -74,8 +74,8 @@ fn visit_word<C: CamArray>(array: &mut C, word: WordIndex) -> Answers
 
 // Clears every mark.
 fn erase_all<C: CamArray>(array: &mut C)
-    ensures state_after { state array.new ≡ after_all (build array.old) (upward (build array.old).words (λ a. Erase (word_of a) ∷ [])) (state array.old) }
-    ensures build_stays { build array.new ≡ build array.old }
+    ensures state_after { C.state array.new ≡ after_all (C.build array.old) (upward (C.build array.old).words (λ a. Erase (word_of a) ∷ [])) (C.state array.old) }
+    ensures build_stays { C.build array.new ≡ C.build array.old }
 {
     for number in 0..array.words() {
         array.erase(WordIndex { number });
@@ -106,12 +106,12 @@ fn write_row(buffer: &mut [u8], start: usize, answers: &Answers, width: u8) -> u
 // Draws the chart of an array at the front of a buffer, as far as it fits, and says how many cells are blemished. The
 // bytes follow from the defects alone, whatever the array held before.
 pub fn draw<C: CamArray>(array: &mut C, buffer: &mut [u8]) -> u32
-    ensures byte_of_each_cell { Charted (build array.old) buffer.old buffer.new }
-    ensures above_0_exactly_where_blemished { (a j : ℕ) → nat_lt 0 (chart_byte (build array.old) a j) ≡ blemished (build array.old) a j }
-    ensures blemished_cells { result ≡ blemishes (build array.old) }
-    ensures operations_tallied { (state array.new).tally ≡ min ((state array.old).tally + (build array.old).words * (8 + 4 * (build array.old).width)) tally_cap }
-    ensures state_after { state array.new ≡ after_all (build array.old) (chart_operations (build array.old).words (build array.old).width) (state array.old) }
-    ensures build_stays { build array.new ≡ build array.old }
+    ensures byte_of_each_cell { Charted (C.build array.old) buffer.old buffer.new }
+    ensures above_0_exactly_where_blemished { (a j : ℕ) → nat_lt 0 (chart_byte (C.build array.old) a j) ≡ blemished (C.build array.old) a j }
+    ensures blemished_cells { result ≡ blemishes (C.build array.old) }
+    ensures operations_tallied { (C.state array.new).tally ≡ min ((C.state array.old).tally + (C.build array.old).words * (8 + 4 * (C.build array.old).width)) tally_cap }
+    ensures state_after { C.state array.new ≡ after_all (C.build array.old) (chart_operations (C.build array.old).words (C.build array.old).width) (C.state array.old) }
+    ensures build_stays { C.build array.new ≡ C.build array.old }
 {
     erase_all(array);
     let width = array.width();

@@ -36,9 +36,9 @@ pub struct Step {
 
 // Does a step, and says whether it missed: whether the answer was not the expected one.
 pub fn perform<C: CamArray>(array: &mut C, step: Step) -> bool
-    ensures missed { result ≡ missing (build array.old) step (state array.old) }
-    ensures state_after { state array.new ≡ operated (build array.old) step.operation (state array.old) }
-    ensures build_stays { build array.new ≡ build array.old }
+    ensures missed { result ≡ missing (C.build array.old) step (C.state array.old) }
+    ensures state_after { C.state array.new ≡ operated (C.build array.old) step.operation (C.state array.old) }
+    ensures build_stays { C.build array.new ≡ C.build array.old }
 {
     !step.expected.is_met_by(operate(array, step.operation))
 }

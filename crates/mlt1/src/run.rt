@@ -43,9 +43,9 @@ impl RunState {
     // Does the next operation on the array and moves on, and says whether there was one: at its end the run does
     // nothing.
     pub fn advance<C: CamArray>(&mut self, array: &mut C) -> bool
-        ensures unless_at_end { result ≡ nat_lt 0 (length (left (build array.old).words (build array.old).width self.old)) }
-        ensures next_step_done { Went (build array.old) (if result then 1 else 0) self.old self.new (state array.old) (state array.new) }
-        ensures build_stays { build array.new ≡ build array.old }
+        ensures unless_at_end { result ≡ nat_lt 0 (length (left (C.build array.old).words (C.build array.old).width self.old)) }
+        ensures next_step_done { Went (C.build array.old) (if result then 1 else 0) self.old self.new (C.state array.old) (C.state array.new) }
+        ensures build_stays { C.build array.new ≡ C.build array.old }
     {
         match self.next_step(array.words(), array.width()) {
             None => false,
@@ -59,10 +59,10 @@ impl RunState {
 
     // Does the next operations, at most `most` of them, and says how many: fewer only where fewer are left.
     pub fn advance_by<C: CamArray>(&mut self, array: &mut C, most: u32) -> u32
-        ensures most_or_all_left { result ≡ min most (length (left (build array.old).words (build array.old).width self.old)) }
-        ensures tally_rises_by_answer { (state array.new).tally ≡ min ((state array.old).tally + result) tally_cap }
-        ensures next_steps_done { Went (build array.old) result self.old self.new (state array.old) (state array.new) }
-        ensures build_stays { build array.new ≡ build array.old }
+        ensures most_or_all_left { result ≡ min most (length (left (C.build array.old).words (C.build array.old).width self.old)) }
+        ensures tally_rises_by_answer { (C.state array.new).tally ≡ min ((C.state array.old).tally + result) tally_cap }
+        ensures next_steps_done { Went (C.build array.old) result self.old self.new (C.state array.old) (C.state array.new) }
+        ensures build_stays { C.build array.new ≡ C.build array.old }
     {
         for done in 0..most {
             if !self.advance(array) {

@@ -25,10 +25,10 @@ fn do_step<C: CamArray>(array: &mut C, step: Step, buffer: &mut [u8], log: Log) 
     requires room { is_check step.operation ≡ true → log.outcomes < length buffer.old }
     requires operations_fit { log.operations < 65536 }
     requires misses_fit { log.misses < 65536 }
-    ensures counted_once { result ≡ logged (build array.old) step (state array.old) log }
-    ensures outcome_noted { buffer.new ≡ noted (build array.old) step (state array.old) log.outcomes buffer.old }
-    ensures state_after { state array.new ≡ operated (build array.old) step.operation (state array.old) }
-    ensures build_stays { build array.new ≡ build array.old }
+    ensures counted_once { result ≡ logged (C.build array.old) step (C.state array.old) log }
+    ensures outcome_noted { buffer.new ≡ noted (C.build array.old) step (C.state array.old) log.outcomes buffer.old }
+    ensures state_after { C.state array.new ≡ operated (C.build array.old) step.operation (C.state array.old) }
+    ensures build_stays { C.build array.new ≡ C.build array.old }
 {
     let missed = perform(array, step);
     let mut outcomes = log.outcomes;
@@ -45,11 +45,11 @@ fn do_step<C: CamArray>(array: &mut C, step: Step, buffer: &mut [u8], log: Log) 
 
 // Does the whole test, from its first element to its last.
 pub(crate) fn do_all<C: CamArray>(test: &Test, array: &mut C, buffer: &mut [u8]) -> Log
-    requires room { check_count (steps_on (build array.old) (elements_of test.now)) ≤ length buffer.old }
-    ensures operations_and_misses { Answers (build array.old) (elements_of test.now) (state array.old) result }
-    ensures outcome_bytes { buffer.new ≡ over buffer.old 0 (outcomes_of (build array.old) (steps_on (build array.old) (elements_of test.now)) (state array.old)) }
-    ensures state_after { state array.new ≡ after (build array.old) (steps_on (build array.old) (elements_of test.now)) (state array.old) }
-    ensures build_stays { build array.new ≡ build array.old }
+    requires room { check_count (steps_on (C.build array.old) (elements_of test.now)) ≤ length buffer.old }
+    ensures operations_and_misses { Answers (C.build array.old) (elements_of test.now) (C.state array.old) result }
+    ensures outcome_bytes { buffer.new ≡ over buffer.old 0 (outcomes_of (C.build array.old) (steps_on (C.build array.old) (elements_of test.now)) (C.state array.old)) }
+    ensures state_after { C.state array.new ≡ after (C.build array.old) (steps_on (C.build array.old) (elements_of test.now)) (C.state array.old) }
+    ensures build_stays { C.build array.new ≡ C.build array.old }
 {
     let words = array.words();
     let width = array.width();

@@ -24,12 +24,12 @@ pub fn trial<C: CamArray>(
     array: &mut C,
     buffer: &mut [u8],
 ) -> Result<TrialResult, Fault>
-    ensures asks_room { Asks (trial_questions (build array.old) (elements_of test.now) (length buffer.old)) result }
-    ensures operations_and_misses { MatchResult result (λ t. t ≡ trial_of (build array.old) (elements_of test.now) (state array.old)) (λ _. array.new ≡ array.old) }
-    ensures outcome_bytes { MatchResult result (λ _. buffer.new ≡ over buffer.old 0 (outcomes_of (build array.old) (steps_on (build array.old) (elements_of test.now)) (state array.old))) (λ _. buffer.new ≡ buffer.old) }
-    ensures state_after { MatchResult result (λ _. state array.new ≡ after (build array.old) (steps_on (build array.old) (elements_of test.now)) (state array.old)) (λ _. array.new ≡ array.old) }
-    ensures build_stays { build array.new ≡ build array.old }
-    ensures mlt1_tells_as_a_run { elements_of test.now ≡ mlt1 → IfOk result (λ t. TellsAsARun (build array.old) (state array.old) t) }
+    ensures asks_room { Asks (trial_questions (C.build array.old) (elements_of test.now) (length buffer.old)) result }
+    ensures operations_and_misses { MatchResult result (λ t. t ≡ trial_of (C.build array.old) (elements_of test.now) (C.state array.old)) (λ _. array.new ≡ array.old) }
+    ensures outcome_bytes { MatchResult result (λ _. buffer.new ≡ over buffer.old 0 (outcomes_of (C.build array.old) (steps_on (C.build array.old) (elements_of test.now)) (C.state array.old))) (λ _. buffer.new ≡ buffer.old) }
+    ensures state_after { MatchResult result (λ _. C.state array.new ≡ after (C.build array.old) (steps_on (C.build array.old) (elements_of test.now)) (C.state array.old)) (λ _. array.new ≡ array.old) }
+    ensures build_stays { C.build array.new ≡ C.build array.old }
+    ensures mlt1_tells_as_a_run { elements_of test.now ≡ mlt1 → IfOk result (λ t. TellsAsARun (C.build array.old) (C.state array.old) t) }
     ensures laws_of_outcomes { OutcomeLaws }
 {
     let outcomes = outcome_count(test, array.words(), array.width());

@@ -20,7 +20,7 @@ pub returns-in-Storage : goal.returns-in-Storage
 returns-in-Storage c =
     record {
       reading = pinned (cell_fault_one _ _ _ _ _) (after_word _ _ _ _ (Storage _) _ _ c.in-Storage.is refl);
-      ahead = record { after = omega arith; inside = c.requires.head-inside };
+      ahead = record { after = omega arith; inside = c.requires.head_inside };
     }
 
 pub returns-in-err-held : goal.returns-in-err-held

@@ -18,26 +18,26 @@ returns-in-err-token c =
 pub returns-then-spells : goal.returns-then-spells
 returns-then-spells c =
     let x = c.in-ok-token.ensures.reading.reads in
-    record { reading = pinned (line_word_one _ _) (on x (known Note (c.spells.ensures.word-told.0 c.if-spells.true))); ahead = token_ahead x }
+    record { reading = pinned (line_word_one _ _) (on x (known Note (c.spells.ensures.word_told.0 c.if-spells.true))); ahead = token_ahead x }
 
 pub returns-then-spells-2 : goal.returns-then-spells-2
 returns-then-spells-2 c =
     let x = c.in-ok-token.ensures.reading.reads in
-    record { reading = pinned (line_word_one _ _) (on x (known Cell (c.spells-else-spells.ensures.word-told.0 c.if-spells-2.true))); ahead = token_ahead x }
+    record { reading = pinned (line_word_one _ _) (on x (known Cell (c.spells-else-spells.ensures.word_told.0 c.if-spells-2.true))); ahead = token_ahead x }
 
 pub returns-then-spells-3 : goal.returns-then-spells-3
 returns-then-spells-3 c =
     let x = c.in-ok-token.ensures.reading.reads in
-    record { reading = pinned (line_word_one _ _) (on x (known Mark (c.spells-else-spells-2.ensures.word-told.0 c.if-spells-3.true))); ahead = token_ahead x }
+    record { reading = pinned (line_word_one _ _) (on x (known Mark (c.spells-else-spells-2.ensures.word_told.0 c.if-spells-3.true))); ahead = token_ahead x }
 
 pub returns-else-spells-3 : goal.returns-else-spells-3
 returns-else-spells-3 c =
-    rw c.not-wanted.ensures.not-wanted-there
+    rw c.not-wanted.ensures.not_wanted_there
     record {
       reading = pinned (line_word_one _ _) (on c.in-ok-token.ensures.reading.reads (unknown (λ l. elim l as (λ l. Spells c.args.text.now c.in-ok-token.token (line_spelling l) → ⊥) [
-        | Note ↦ λ s. clash _ (c.spells.ensures.word-told.1 s) c.if-spells.false
-        | Cell ↦ λ s. clash _ (c.spells-else-spells.ensures.word-told.1 s) c.if-spells-2.false
-        | Mark ↦ λ s. clash _ (c.spells-else-spells-2.ensures.word-told.1 s) c.if-spells-3.false
+        | Note ↦ λ s. clash _ (c.spells.ensures.word_told.1 s) c.if-spells.false
+        | Cell ↦ λ s. clash _ (c.spells-else-spells.ensures.word_told.1 s) c.if-spells-2.false
+        | Mark ↦ λ s. clash _ (c.spells-else-spells-2.ensures.word_told.1 s) c.if-spells-3.false
       ])));
       ahead = tt;
     }

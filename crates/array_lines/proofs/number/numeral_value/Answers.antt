@@ -34,7 +34,7 @@ returns-then-not-is-digit c =
     let i = c.loop-byte.byte-index in
     let off : is_digit (get_or xs i 0) ≡ false = sym c.if-not-is-digit.ensures.digit in
     let bad : every is_digit xs ≡ false = sym c.loop-byte.invariant.0 ∙ at_drop_more (every is_digit) xs i 0 (omega arith) ∙ and_left _ _ off in
-    record { value-of-digits = and_right (leb (length xs) 4) _ bad }
+    record { value_of_digits = and_right (leb (length xs) 4) _ bad }
 
 pub overflow-mul-value : goal.overflow-mul-value
 overflow-mul-value c =
@@ -67,4 +67,4 @@ returns c =
     let xs = c.args.word.now in
     let i = c.loop-byte.byte-index in
     let all : every is_digit xs ≡ true = sym c.loop-byte.invariant.0 ∙ at_drop_all (every is_digit) xs i (omega arith) in
-    record { value-of-digits = (and_from _ _ (le-leb (length xs) 4 (omega arith)) all, c.loop-byte.invariant.2 ∙ ap (digits_value 10) (take_all i xs (omega arith))) }
+    record { value_of_digits = (and_from _ _ (le-leb (length xs) 4 (omega arith)) all, c.loop-byte.invariant.2 ∙ ap (digits_value 10) (take_all i xs (omega arith))) }

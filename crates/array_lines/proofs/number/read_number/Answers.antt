@@ -14,7 +14,7 @@ returns-in-err-token c =
 pub returns-in-Some : goal.returns-in-Some
 returns-in-Some c =
     let t = c.in-ok-token.ensures in
-    let v = c.in-Some.ensures.value-of-digits in
+    let v = c.in-Some.ensures.value_of_digits in
     rw v.1 record {
       reading = pinned (number_one _ _) (on t.reading.reads (number v.0));
       ahead = record { after = omega (arith, t.lies.after, t.lies.order); inside = t.lies.inside };
@@ -22,5 +22,5 @@ returns-in-Some c =
 
 pub returns-in-None : goal.returns-in-None
 returns-in-None c =
-    rw c.not-wanted.ensures.not-wanted-there
-    record { reading = pinned (number_one _ _) (on c.in-ok-token.ensures.reading.reads (no_number c.in-None.ensures.value-of-digits)); ahead = tt }
+    rw c.not-wanted.ensures.not_wanted_there
+    record { reading = pinned (number_one _ _) (on c.in-ok-token.ensures.reading.reads (no_number c.in-None.ensures.value_of_digits)); ahead = tt }

@@ -8,9 +8,9 @@ pub returns-in-Ok : goal.returns-in-Ok
 returns-in-Ok c =
     let n = c.args.size.words in
     record {
-      words-blank-others-stay = λ sized room.
-          ap vec_items c.into-records-in-Ok.ensures.records-as-they-are ∙ c.in-Ok.ensures.later-records-stay
-          ∙ ap (λ v. blanked n (vec_items v)) c.into-records.ensures.records-as-they-are;
+      words_blank_others_stay = λ sized room.
+          ap vec_items c.into-records-in-Ok.ensures.records_as_they_are ∙ c.in-Ok.ensures.later_records_stay
+          ∙ ap (λ v. blanked n (vec_items v)) c.into-records.ensures.records_as_they_are;
     }
 
 -- an array of that size and of those records was made before
@@ -18,7 +18,7 @@ pub returns-in-Err : goal.returns-in-Err
 returns-in-Err c =
     let n = c.args.size.words in
     record {
-      words-blank-others-stay = λ sized room.
-          let fits : n ≤ vec_len c.into-records.result = subst (λ v. n ≤ vec_len v) (sym c.into-records.ensures.records-as-they-are) room in
-          absurd (refused_not_0 _ _ c.in-Err.ensures.asks-size-then-records (both_yes _ _ 41 57 sized (le-leb n _ fits)));
+      words_blank_others_stay = λ sized room.
+          let fits : n ≤ vec_len c.into-records.result = subst (λ v. n ≤ vec_len v) (sym c.into-records.ensures.records_as_they_are) room in
+          absurd (refused_not_0 _ _ c.in-Err.ensures.asks_size_then_records (both_yes _ _ 41 57 sized (le-leb n _ fits)));
     }

@@ -14,18 +14,18 @@ use Rattle.array_text.proofs.array.read_array.Goals as goal
 
 pub returns-then-len-lt-RECORDS : goal.returns-then-len-lt-RECORDS
 returns-then-len-lt-RECORDS c =
-    let f = call_fault _ c.of-call.result BufferTooShort c.of-call.ensures.reason-given c.of-call.ensures.refused-without-text in
-    record { text-read = subst (λ f. Reading (ArrayCall (vec_len c.args.records) c.args.text.now) (Err f)) (sym f) (pinned (call_one _ _) (off (too_little (omega arith)))); records-afterwards = λ enough. absurd (omega arith); untouched-without-memory = λ _. refl }
+    let f = call_fault _ c.of-call.result BufferTooShort c.of-call.ensures.reason_given c.of-call.ensures.refused_without_text in
+    record { text_read = subst (λ f. Reading (ArrayCall (vec_len c.args.records) c.args.text.now) (Err f)) (sym f) (pinned (call_one _ _) (off (too_little (omega arith)))); records_afterwards = λ enough. absurd (omega arith); untouched_without_memory = λ _. refl }
 
 pub returns-in-Err : goal.returns-in-Err
 returns-in-Err c =
     record {
-      text-read = pinned (call_one _ _) (on (enough (omega arith)) (off c.in-Err.ensures.reading.reads));
-      records-afterwards = λ _. record {
+      text_read = pinned (call_one _ _) (on (enough (omega arith)) (off c.in-Err.ensures.reading.reads));
+      records_afterwards = λ _. record {
         first_line_refused = λ f x. refl;
         first_line_read = λ s x. absurd (ok_err s _ (c.in-Err.ensures.reading.only (Ok s) x));
       };
-      untouched-without-memory = λ _. refl;
+      untouched_without_memory = λ _. refl;
     }
 
 -- the making is not refused: the size was asked, and there are records enough
@@ -35,16 +35,16 @@ returns-in-Err-new c =
     let n = c.in-Ok.size.words in
     let sized = within c.in-Ok.size s in
     let room : leb n (vec_len c.args.records) ≡ true = le-leb n _ (omega (arith, s.few_words)) in
-    absurd (refused_not_0 _ _ c.in-Err-new.ensures.asks-size-then-records (both_yes _ _ 41 57 sized room))
+    absurd (refused_not_0 _ _ c.in-Err-new.ensures.asks_size_then_records (both_yes _ _ 41 57 sized room))
 
 pub returns-in-Ok-add-rest : goal.returns-in-Ok-add-rest
 returns-in-Ok-add-rest c =
     let made = c.in-Ok-new.ensures in
     let s = first_line_sized _ _ c.in-Ok.ensures.reading.reads in
-    let x = c.in-Ok-add-rest.ensures.reading (record { build = made.made-flawless; state = made.made-cleared; distinct = tt; inside = tt }) in
+    let x = c.in-Ok-add-rest.ensures.reading (record { build = made.made_flawless; state = made.made_cleared; distinct = tt; inside = tt }) in
     let h = x.1.1 in
     record {
-      text-read = record {
+      text_read = record {
         description = record { words = c.in-Ok.size.words; width = c.in-Ok.size.width; defects = x.0 };
         reading = pinned (call_one _ _) (on (enough (omega arith)) (on c.in-Ok.ensures.reading.reads (on x.1.0 refl)));
         build = h.build;
@@ -52,8 +52,8 @@ returns-in-Ok-add-rest c =
         each_defect_and_no_other = subst (Exactly x.0) (sym h.build) (exactly _ _ x.0 h.distinct);
         inside = h.inside;
       };
-      records-afterwards = later_words c.in-Ok.size.words c.in-Ok-new.array c.add-rest.new.array (vec_items c.args.records) c.in-Ok-add-rest.ensures.later-records-stay made.later-records-stay (omega (arith, s.few_words, c.args.records.ok.0)) (ap (λ B. B.words) made.made-flawless);
-      untouched-without-memory = omega arith;
+      records_afterwards = later_words c.in-Ok.size.words c.in-Ok-new.array c.add-rest.new.array (vec_items c.args.records) c.in-Ok-add-rest.ensures.later_records_stay made.later_records_stay (omega (arith, s.few_words, c.args.records.ok.0)) (ap (λ B. B.words) made.made_flawless);
+      untouched_without_memory = omega arith;
     }
 
 pub returns-in-Err-add-rest : goal.returns-in-Err-add-rest
@@ -63,17 +63,17 @@ returns-in-Err-add-rest c =
     let n = c.in-Ok.size.words in
     let p = c.add-rest.new.array in
     let sized = within c.in-Ok.size s in
-    let words : n ≡ p.words = sym (ap (λ B. B.words) made.made-flawless) ∙ sym c.in-Err-add-rest.ensures.later-records-stay.words in
+    let words : n ≡ p.words = sym (ap (λ B. B.words) made.made_flawless) ∙ sym c.in-Err-add-rest.ensures.later_records_stay.words in
     let room : n ≤ vec_len p.records = omega (arith, p.recorded) in
-    let later = later_of n c.in-Ok-new.array p (vec_items c.args.records) c.in-Err-add-rest.ensures.later-records-stay made.later-records-stay (omega (arith, s.few_words, c.args.records.ok.0)) (ap (λ B. B.words) made.made-flawless) in
-    let given = c.given-up.ensures.words-blank-others-stay sized room
+    let later = later_of n c.in-Ok-new.array p (vec_items c.args.records) c.in-Err-add-rest.ensures.later_records_stay made.later_records_stay (omega (arith, s.few_words, c.args.records.ok.0)) (ap (λ B. B.words) made.made_flawless) in
+    let given = c.given-up.ensures.words_blank_others_stay sized room
     ∙ blanked_same n (vec_items p.records) (vec_items c.args.records) (omega (arith, p.records.ok.0)) (omega (arith, s.few_words, c.args.records.ok.0)) later in
-    let x = c.in-Err-add-rest.ensures.reading (record { build = made.made-flawless; state = made.made-cleared; distinct = tt; inside = tt }) in
+    let x = c.in-Err-add-rest.ensures.reading (record { build = made.made_flawless; state = made.made_cleared; distinct = tt; inside = tt }) in
     record {
-      text-read = pinned (call_one _ _) (on (enough (omega arith)) (on c.in-Ok.ensures.reading.reads (off x)));
-      records-afterwards = λ _. record {
+      text_read = pinned (call_one _ _) (on (enough (omega arith)) (on c.in-Ok.ensures.reading.reads (off x)));
+      records_afterwards = λ _. record {
         first_line_refused = λ f y. absurd (ok_err c.in-Ok.size f (sym (c.in-Ok.ensures.reading.only (Err f) y)));
         first_line_read = λ z y. given ∙ ap (λ (n : ℕ). blanked n (vec_items c.args.records)) (ap (λ z. z.words) (sym (same_ok z c.in-Ok.size (c.in-Ok.ensures.reading.only (Ok z) y))));
       };
-      untouched-without-memory = λ few. absurd (omega arith);
+      untouched_without_memory = λ few. absurd (omega arith);
     }

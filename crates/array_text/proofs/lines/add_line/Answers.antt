@@ -11,7 +11,7 @@ use Rattle.array_text.proofs.lines.add_line.Goals as goal
 pub returns-in-err-line : goal.returns-in-err-line
 returns-in-err-line c =
     let p = err_from_is_err_and c.from-residual.result c.from-residual.ensures.1 in
-    rw (p.1, p.2) record { reading = λ ds h. off c.in-err-line.ensures.reading.reads; ahead = tt; later-records-stay = keeps _ }
+    rw (p.1, p.2) record { reading = λ ds h. off c.in-err-line.ensures.reading.reads; ahead = tt; later_records_stay = keeps _ }
 
 pub returns-in-err-plant : goal.returns-in-err-plant
 returns-in-err-plant c =
@@ -20,10 +20,10 @@ returns-in-err-plant c =
     let inside = MatchOption-at_some (Unit {0}) (Inside c.args.size.words c.args.size.width) _ c.in-Some.is (line_inside _ _ _ _ _ l.reading.reads) in
     rw (p.1, p.2) record {
       reading = λ ds h.
-          let x = c.in-err-plant.ensures.new-or-repeated _ _ ds h inside in
+          let x = c.in-err-plant.ensures.new_or_repeated _ _ ds h inside in
           on l.reading.reads (adds_repeated ds _ _ _ _ _ c.in-Some.is x.0 x.1);
       ahead = tt;
-      later-records-stay = c.in-err-plant.ensures.later-records-stay;
+      later_records_stay = c.in-err-plant.ensures.later_records_stay;
     }
 
 pub returns-in-ok-plant : goal.returns-in-ok-plant
@@ -32,10 +32,10 @@ returns-in-ok-plant c =
     let inside = MatchOption-at_some (Unit {0}) (Inside c.args.size.words c.args.size.width) _ c.in-Some.is (line_inside _ _ _ _ _ l.reading.reads) in
     record {
       reading = λ ds h.
-          let x = c.in-ok-plant.ensures.new-or-repeated _ _ ds h inside in
+          let x = c.in-ok-plant.ensures.new_or_repeated _ _ ds h inside in
           (c.in-Some.defect ∷ ds, (on l.reading.reads (adds_new ds _ _ _ _ c.in-Some.is x.0), x.1));
       ahead = l.ahead;
-      later-records-stay = c.in-ok-plant.ensures.later-records-stay;
+      later_records_stay = c.in-ok-plant.ensures.later_records_stay;
     }
 
 pub returns-in-None : goal.returns-in-None
@@ -44,5 +44,5 @@ returns-in-None c =
     record {
       reading = λ ds h. (ds, (on l.reading.reads (adds_none ds _ _ _ c.in-None.is), h));
       ahead = l.ahead;
-      later-records-stay = keeps _;
+      later_records_stay = keeps _;
     }

@@ -10,7 +10,7 @@ pub loop-operation-preserved : goal.loop-operation-preserved
 loop-operation-preserved g c = (
   c.operate.ensures.build_stays ∙ c.loop-operation.invariant.0,
   after_turn c.args.operations.now c.loop-operation.operation-index _ _ _ _ _ _
-      c.loop-operation-test.true c.loop-operation.invariant.0 c.loop-operation.invariant.1 c.operate.ensures.state-after,
+      c.loop-operation-test.true c.loop-operation.invariant.0 c.loop-operation.invariant.1 c.operate.ensures.state_after,
 )
 
 pub returns : goal.returns
@@ -21,9 +21,9 @@ returns g c =
     let ends = c.loop-operation.invariant.1
     ∙ ap (λ xs. after_all (m.build x) xs (m.state x)) (take_all c.loop-operation.operation-index os c.loop-operation-test.false) in
     record {
-      state-after = ends;
+      state_after = ends;
       build_stays = c.loop-operation.invariant.0;
-      steady-stays = subst (Steady (m.build x)) (sym ends) (steadiness_stays (m.build x) os (m.state x) (m.formed x).steady);
+      steady_stays = subst (Steady (m.build x)) (sym ends) (steadiness_stays (m.build x) os (m.state x) (m.formed x).steady);
       tally_rises = ap (λ S. S.tally) ends ∙ tally_rises (m.build x) os (m.state x) (m.formed x).tally_within;
-      steadiness-of-the-model = steadiness_stays;
+      steadiness_of_the_model = steadiness_stays;
     }

@@ -11,25 +11,25 @@ use Rattle.campaigns.proofs.campaign.campaign.Goals as goal
 pub returns-then-words-lt1 : goal.returns-then-words-lt1
 returns-then-words-lt1 c =
     record {
-      asks-size-then-records = search rules;
-      row-of-each-fault = refl;
-      records-come-back = refl;
-      mlt1-detects-every-place = λ e. tt;
-      mlt1-detects-at-every-size = detects_all;
-      places-of-faults = places_are;
-      laws-of-tenths = tenths_laws;
+      asks_size_then_records = search rules;
+      row_of_each_fault = refl;
+      records_come_back = refl;
+      mlt1_detects_every_place = λ e. tt;
+      mlt1_detects_at_every_size = detects_all;
+      places_of_faults = places_are;
+      laws_of_tenths = tenths_laws;
     }
 
 pub returns-then-len-words : goal.returns-then-len-words
 returns-then-len-words c =
     record {
-      asks-size-then-records = search rules;
-      row-of-each-fault = refl;
-      records-come-back = refl;
-      mlt1-detects-every-place = λ e. tt;
-      mlt1-detects-at-every-size = detects_all;
-      places-of-faults = places_are;
-      laws-of-tenths = tenths_laws;
+      asks_size_then_records = search rules;
+      row_of_each_fault = refl;
+      records_come_back = refl;
+      mlt1_detects_every_place = λ e. tt;
+      mlt1_detects_at_every_size = detects_all;
+      places_of_faults = places_are;
+      laws_of_tenths = tenths_laws;
     }
 
 pub returns-in-Ok : goal.returns-in-Ok
@@ -37,18 +37,18 @@ returns-in-Ok c =
     let n = c.args.words in
     let w = c.args.width in
     let back = c.fill-records.result in
-    let rows = c.fill-records.ensures.row-of-each-fault in
-    let fits : n ≤ length (vec_items back) = omega (arith, back.ok.0, c.fill-records.ensures.still-a-record-a-word) in
+    let rows = c.fill-records.ensures.row_of_each_fault in
+    let fits : n ≤ length (vec_items back) = omega (arith, back.ok.0, c.fill-records.ensures.still_a_record_a_word) in
     record {
-      asks-size-then-records = both_yes _ _ 81 57
+      asks_size_then_records = both_yes _ _ 81 57
           (and_from (leb 1 n && leb n 16) (leb 1 w && leb w 16)
           (and_from (leb 1 n) (leb n 16) (le-leb 1 n (omega arith)) (le-leb n 16 (omega arith)))
           (and_from (leb 1 w) (leb w 16) (le-leb 1 w (omega arith)) (le-leb w 16 (omega arith))))
           (le-leb n _ (omega (arith, c.len.ensures, c.if-len-words.false)));
-      row-of-each-fault = rows;
-      records-come-back = blank_first n (vec_items back) _ fits (ap vec_items c.into-records.ensures.records-as-they-are ∙ c.in-Ok.ensures.later-records-stay);
-      mlt1-detects-every-place = λ e. rows ∙ full_rows (elements_of c.args.test.now) n w e (omega arith) (omega arith);
-      mlt1-detects-at-every-size = detects_all;
-      places-of-faults = places_are;
-      laws-of-tenths = tenths_laws;
+      row_of_each_fault = rows;
+      records_come_back = blank_first n (vec_items back) _ fits (ap vec_items c.into-records.ensures.records_as_they_are ∙ c.in-Ok.ensures.later_records_stay);
+      mlt1_detects_every_place = λ e. rows ∙ full_rows (elements_of c.args.test.now) n w e (omega arith) (omega arith);
+      mlt1_detects_at_every_size = detects_all;
+      places_of_faults = places_are;
+      laws_of_tenths = tenths_laws;
     }

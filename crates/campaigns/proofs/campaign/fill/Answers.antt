@@ -16,9 +16,9 @@ loop-number-preserved c =
     let inv = c.loop-number.invariant in
     let told = c.tell-returned.ensures in
     let many : length faults ≡ 15 = ap length c.faults-of-rows-faults.ensures.in_order in (
-      take_more_set rows i _ (omega arith) ∙ ap₂ (λ xs x. xs ++ x ∷ []) inv.0 told.row-of-fault ∙ sym (map_more row faults i _ (omega arith)),
+      take_more_set rows i _ (omega arith) ∙ ap₂ (λ xs x. xs ++ x ∷ []) inv.0 told.row_of_fault ∙ sym (map_more row faults i _ (omega arith)),
       length-set rows i _ ∙ inv.1,
-      told.still-a-record-a-word,
+      told.still_a_record_a_word,
     )
 
 pub returns : goal.returns
@@ -31,4 +31,4 @@ returns c =
     let filled : rows ≡ map row campaign_faults =
     sym (take_all i rows (omega arith)) ∙ inv.0
     ∙ ap₂ (λ (n : ℕ) fs. map row (take n fs)) all c.faults-of-rows-faults.ensures.in_order in
-    record { row-of-each-fault = filled; still-a-record-a-word = inv.2 }
+    record { row_of_each_fault = filled; still_a_record_a_word = inv.2 }

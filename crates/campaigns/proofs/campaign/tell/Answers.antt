@@ -11,10 +11,10 @@ tenths-of-percent-requires c =
     let n = c.args.size.words in
     let w = c.args.size.width in
     let det : Place → Bool = detected_at (elements_of c.args.test.now) f n w in
-    let total : n * c.places-in-word.result ≡ length (places f n w) = ap (λ (k : ℕ). n * k) c.places-in-word.ensures.cells-or-mark ∙ sym (places_are f n w) in
+    let total : n * c.places-in-word.result ≡ length (places f n w) = ap (λ (k : ℕ). n * k) c.places-in-word.ensures.cells_or_mark ∙ sym (places_are f n w) in
     record {
-      some = omega (arith, mul-le-mul c.args.size.some_words (places_some f w c.args.size.some_bits), ap (λ (k : ℕ). n * k) c.places-in-word.ensures.cells-or-mark);
-      within = omega (arith, c.count-detected-detected.ensures.places-with-a-miss, count_within det (places f n w), total);
+      some = omega (arith, mul-le-mul c.args.size.some_words (places_some f w c.args.size.some_bits), ap (λ (k : ℕ). n * k) c.places-in-word.ensures.cells_or_mark);
+      within = omega (arith, c.count-detected-detected.ensures.places_with_a_miss, count_within det (places f n w), total);
     }
 
 pub returns : goal.returns
@@ -22,9 +22,9 @@ returns c =
     let f = c.args.fault in
     let n = c.args.size.words in
     let w = c.args.size.width in
-    let total : n * c.places-in-word.result ≡ length (places f n w) = ap (λ (k : ℕ). n * k) c.places-in-word.ensures.cells-or-mark ∙ sym (places_are f n w) in
+    let total : n * c.places-in-word.result ≡ length (places f n w) = ap (λ (k : ℕ). n * k) c.places-in-word.ensures.cells_or_mark ∙ sym (places_are f n w) in
     record {
-      row-of-fault = ap {B = Row} (λ (t : ℕ). record { detected = c.count-detected-detected.result.detected; total = n * c.places-in-word.result; tenths = t }) c.tenths-of-percent.ensures.rounded-down
-          ∙ ap₂ row_from c.count-detected-detected.ensures.places-with-a-miss total;
-      still-a-record-a-word = c.count-detected-detected.ensures.still-a-record-a-word;
+      row_of_fault = ap {B = Row} (λ (t : ℕ). record { detected = c.count-detected-detected.result.detected; total = n * c.places-in-word.result; tenths = t }) c.tenths-of-percent.ensures.rounded_down
+          ∙ ap₂ row_from c.count-detected-detected.ensures.places_with_a_miss total;
+      still_a_record_a_word = c.count-detected-detected.ensures.still_a_record_a_word;
     }

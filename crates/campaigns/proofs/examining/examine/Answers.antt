@@ -7,9 +7,9 @@ pub plant-requires : goal.plant-requires
 plant-requires c =
     let a = c.args.word.number in
     let j = c.args.column.number in
-    let new = c.in-Ok.ensures.made-flawless in
+    let new = c.in-Ok.ensures.made_flawless in
     record {
-      inside = ap (λ B. has_cell B a j) new ∙ and_from (ltb a c.args.size.words) (ltb j c.args.size.width) (lt-ltb a _ c.requires.word-inside) (lt-ltb j _ c.requires.column-inside);
-      good-storage = ap (λ B. is_good (B.storage a j)) new;
-      free-mark = ap (λ B. B.stuck a) new;
+      inside = ap (λ B. has_cell B a j) new ∙ and_from (ltb a c.args.size.words) (ltb j c.args.size.width) (lt-ltb a _ c.requires.word_inside) (lt-ltb j _ c.requires.column_inside);
+      good_storage = ap (λ B. is_good (B.storage a j)) new;
+      free_mark = ap (λ B. B.stuck a) new;
     }

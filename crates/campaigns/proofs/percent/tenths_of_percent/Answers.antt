@@ -6,4 +6,4 @@ pub overflow-cast-result-3 : goal.overflow-cast-result-3
 overflow-cast-result-3 c = omega (arith, tenths_most c.args.part c.args.whole c.requires.some c.requires.within)
 
 pub returns : goal.returns
-returns c = record { rounded-down = refl; laws-of-tenths = tenths_laws }
+returns c = record { rounded_down = refl; laws_of_tenths = tenths_laws }

@@ -6,6 +6,6 @@ returns-then-wanted c =
     let told = c.plant-pair.ensures in
     record {
       pair_planted = pair_planted c.args.word.number c.args.column.number c.args.pair.held c.args.pair.comparand c.args.wanted c.args.array.now c.plant-pair.new.self c.plant-pair.result
-          c.requires.inside c.if-wanted.true told.asks-place-then-pair told.only-this-pair-planted;
-      state_stays = state_kept c.args.array.now c.plant-pair.new.self c.plant-pair.result told.state-stays;
+          c.requires.inside c.if-wanted.true told.asks_place_then_pair told.only_this_pair_planted;
+      state_stays = state_kept c.args.array.now c.plant-pair.new.self c.plant-pair.result told.state_stays;
     }

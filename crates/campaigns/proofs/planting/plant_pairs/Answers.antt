@@ -9,6 +9,6 @@ returns c =
     let three = c.plant-if-3.ensures in
     let four = c.plant-if-4.ensures in
     record {
-      pairs-planted = four_planted c.args.word.number c.args.column.number c.args.pairs _ _ _ _ _ one.pair-planted two.pair-planted three.pair-planted four.pair-planted;
-      state_stays = four.state-stays ∙ three.state-stays ∙ two.state-stays ∙ one.state-stays;
+      pairs_planted = four_planted c.args.word.number c.args.column.number c.args.pairs _ _ _ _ _ one.pair_planted two.pair_planted three.pair_planted four.pair_planted;
+      state_stays = four.state_stays ∙ three.state_stays ∙ two.state_stays ∙ one.state_stays;
     }

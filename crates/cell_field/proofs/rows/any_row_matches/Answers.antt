@@ -18,7 +18,7 @@ returns-then-row-matches g c =
     let k = c.loop-word.word in
     let word : ℕ → Bool = λ k. is_set (get_or c.args.marks.now k Clear) && row_matches (k * c.args.width) c.args.width c.args.pattern c.args.mask (map g.C.CellKind.meaning c.args.cells.now) in
     let set : is_set (get_or c.args.marks.now k Clear) ≡ true = sym c.is-set.ensures.set ∙ c.if-is-set.true in
-    record { some-row = sym (some_below c.args.words word k c.loop-word-test.true (and_from _ _ set (sym c.row-matches.ensures.each-cell-matches ∙ c.if-row-matches.true))) }
+    record { some_row = sym (some_below c.args.words word k c.loop-word-test.true (and_from _ _ set (sym c.row-matches.ensures.each_cell_matches ∙ c.if-row-matches.true))) }
 
 pub loop-word-preserved : goal.loop-word-preserved
 loop-word-preserved g c =
@@ -26,7 +26,7 @@ loop-word-preserved g c =
     let word : ℕ → Bool = λ k. is_set (get_or c.args.marks.now k Clear) && row_matches (k * c.args.width) c.args.width c.args.pattern c.args.mask (map g.C.CellKind.meaning c.args.cells.now) in
     let here : word k ≡ false =
     elim c.else-is-set.branch [
-      | else-is-set-via-then-is-set+else-row-matches w ↦ and_right (is_set (get_or c.args.marks.now k Clear)) _ (sym w.row-matches.ensures.each-cell-matches ∙ w.if-row-matches.false)
+      | else-is-set-via-then-is-set+else-row-matches w ↦ and_right (is_set (get_or c.args.marks.now k Clear)) _ (sym w.row-matches.ensures.each_cell_matches ∙ w.if-row-matches.false)
       | else-is-set-via-else-is-set w ↦ and_left (is_set (get_or c.args.marks.now k Clear)) _ (sym c.is-set.ensures.set ∙ w.if-is-set.false)
     ] in
     ap (λ n. any_below n word) (add-one k) ∙ or_from (word k) (any_below k word) here c.loop-word.invariant

@@ -18,7 +18,7 @@ loop-column-preserved g c =
     let held : ℕ → Bool = λ j. (at (map g.C.CellKind.meaning c.args.cells.now) (s + j)).held in
     let few : i < 64 = omega arith in
     let inside : s + i < length c.args.cells.now = omega arith in
-    let told : c.held.result ≡ held i = c.held.ensures.held-bit ∙ sym (ap (λ m. m.held) (cell_at g.C.CellKind.meaning c.args.cells.now (s + i) c.index-cells-start.result inside c.index-cells-start.is)) in
+    let told : c.held.result ≡ held i = c.held.ensures.held_bit ∙ sym (ap (λ m. m.held) (cell_at g.C.CellKind.meaning c.args.cells.now (s + i) c.index-cells-start.result inside c.index-cells-start.is)) in
     elim c.if-held.branch [
       | then-held w ↦ w.bits-is ∙ ap (λ (n : ℕ). n + (1 * 2 ^ i) % 18446744073709551616) c.loop-column.invariant ∙ value_set i held few (sym told ∙ w.if-held.true)
       | else-held w ↦ w.bits-is ∙ c.loop-column.invariant ∙ value_left i held (sym told ∙ w.if-held.false)

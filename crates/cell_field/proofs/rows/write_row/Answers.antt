@@ -25,12 +25,12 @@ loop-column-preserved g c =
     elim c.if-not-bit-is-set.branch [
       | then-not-bit-is-set w ↦
           let cell = get_or-map f xs (s + i) w.index-cells-start.result blank_cell inside in
-          let off : bit m i ≡ false = sym c.bit-is-set.ensures.bit-at-place ∙ w.if-not-bit-is-set.true in
+          let off : bit m i ≡ false = sym c.bit-is-set.ensures.bit_at_place ∙ w.if-not-bit-is-set.true in
           next
-          (ap (λ ys. at (map f ys) (s + i)) w.cells-is ∙ cell_set f xs (s + i) w.take.new.self inside ∙ w.take.ensures.bit-taken
-          ∙ ap₂ taken w.bit-is-set-bit.ensures.bit-at-place (sym cell) ∙ sym (cond-false (bit m i) _ _ off))
+          (ap (λ ys. at (map f ys) (s + i)) w.cells-is ∙ cell_set f xs (s + i) w.take.new.self inside ∙ w.take.ensures.bit_taken
+          ∙ ap₂ taken w.bit-is-set-bit.ensures.bit_at_place (sym cell) ∙ sym (cond-false (bit m i) _ _ off))
           (λ k ne. ap (λ ys. at (map f ys) k) w.cells-is ∙ cell_other f xs (s + i) k w.take.new.self ne)
       | else-not-bit-is-set w ↦
-          let on : bit m i ≡ true = sym c.bit-is-set.ensures.bit-at-place ∙ w.if-not-bit-is-set.false in
+          let on : bit m i ≡ true = sym c.bit-is-set.ensures.bit_at_place ∙ w.if-not-bit-is-set.false in
           next (ap (λ ys. at (map f ys) (s + i)) w.cells-is ∙ sym (cond-true (bit m i) _ _ on)) (λ k ne. ap (λ ys. at (map f ys) k) w.cells-is)
     ]

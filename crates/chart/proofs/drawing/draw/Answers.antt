@@ -11,28 +11,28 @@ use Rattle.chart.proofs.drawing.draw.Goals as goal
 pub loop-number-init : goal.loop-number-init
 loop-number-init g c =
     drawn_none _ _ _ _ c.args.buffer.now refl refl
-    (erasing_dark _ _ _ _ c.erase-all.ensures.build_stays c.erase-all.ensures.state-after)
+    (erasing_dark _ _ _ _ c.erase-all.ensures.build_stays c.erase-all.ensures.state_after)
 
 pub loop-number-preserved : goal.loop-number-preserved
 loop-number-preserved g c =
     drawn_more _ _ _ _ _ _ c.loop-number.number c.loop-number.start c.loop-number.marred c.width-width.result _ c.visit-word-answers.result _ _ _
-    c.loop-number.invariant (omega (arith, c.words-number-end.ensures.word_count)) c.width-width.ensures.bits-of-word
-    c.visit-word-answers.ensures.answers-of-the-word c.visit-word-answers.ensures.state-after c.visit-word-answers.ensures.build_stays
-    c.write-row-marred.ensures.bytes-of-the-word c.write-row-marred.ensures.bytes-above-0 c.write-row-marred.ensures.few
+    c.loop-number.invariant (omega (arith, c.words-number-end.ensures.word_count)) c.width-width.ensures.bits_of_word
+    c.visit-word-answers.ensures.answers_of_the_word c.visit-word-answers.ensures.state_after c.visit-word-answers.ensures.build_stays
+    c.write-row-marred.ensures.bytes_of_the_word c.write-row-marred.ensures.bytes_above_0 c.write-row-marred.ensures.few
 
 pub returns : goal.returns
 returns g c =
     let m = g.C.CamArray in
     let B = m.build c.args.array.now in
     let S = m.state c.args.array.now in
-    let all = drawn_all _ _ _ _ _ _ c.loop-number.number _ _ _ _ c.erase-all.ensures.build_stays c.erase-all.ensures.state-after
+    let all = drawn_all _ _ _ _ _ _ c.loop-number.number _ _ _ _ c.erase-all.ensures.build_stays c.erase-all.ensures.state_after
     c.loop-number.invariant (omega (arith, c.words-number-end.ensures.word_count)) in
     record {
-      byte-of-each-cell = all.0;
-      above-0-exactly-where-blemished = λ a j. byte_tells B a j;
-      blemished-cells = all.1;
-      operations-tallied = ap (λ S. S.tally) all.2 ∙ tally_rises B (chart_operations B.words B.width) S (m.formed c.args.array.now).tally_within
+      byte_of_each_cell = all.0;
+      above_0_exactly_where_blemished = λ a j. byte_tells B a j;
+      blemished_cells = all.1;
+      operations_tallied = ap (λ S. S.tally) all.2 ∙ tally_rises B (chart_operations B.words B.width) S (m.formed c.args.array.now).tally_within
           ∙ ap (λ (n : ℕ). min (S.tally + n) tally_cap) (chart_length_lem B.words B.width);
-      state-after = all.2;
+      state_after = all.2;
       build_stays = all.3;
     }

@@ -16,17 +16,17 @@ loop-number-preserved g c =
     let S = m.state c.args.array.now in
     let formed = m.formed c.args.array.now in
     let i = c.loop-number.number in
-    let width = c.width-width.ensures.bits-of-word in
+    let width = c.width-width.ensures.bits_of_word in
     let p-is = equal_at B.width _ _ c.args.value formed.few_bits width c.equal-bits-pattern.ensures.pattern in
     let m-is = but_at B.width _ _ i formed.few_bits width c.all-but-column.ensures.mask in
     let few : i < 64 = omega (arith, width, formed.few_bits) in
-    let told = asked_hit B c.args.value S i c.loop-number.hits _ _ c.loop-number.invariant _ _ p-is m-is _ c.compare.ensures.some-word-matches in
+    let told = asked_hit B c.args.value S i c.loop-number.hits _ _ c.loop-number.invariant _ _ p-is m-is _ c.compare.ensures.some_word_matches in
     let next : Built (hits_at B c.args.value S) c.if-compare.hits (i + 1) =
     elim c.if-compare.branch [
       | then-compare y ↦ subst (λ h. Built (hits_at B c.args.value S) h (i + 1)) (sym y.hits-is) (built_set _ c.loop-number.hits i few (sym told ∙ y.if-compare.true) c.loop-number.invariant.built)
       | else-compare y ↦ subst (λ h. Built (hits_at B c.args.value S) h (i + 1)) (sym y.hits-is) (built_left _ c.loop-number.hits i (sym told ∙ y.if-compare.false) c.loop-number.invariant.built)
     ] in
-    asked_next B c.args.value S i c.loop-number.hits _ _ c.loop-number.invariant _ _ p-is m-is _ _ _ c.compare.ensures.build_stays c.compare.ensures.only-counted next
+    asked_next B c.args.value S i c.loop-number.hits _ _ c.loop-number.invariant _ _ p-is m-is _ _ _ c.compare.ensures.build_stays c.compare.ensures.only_counted next
 
 pub returns : goal.returns
 returns g c =
@@ -34,11 +34,11 @@ returns g c =
     let B = m.build c.args.array.now in
     let S = m.state c.args.array.now in
     let inv = c.loop-number.invariant in
-    let whole : c.loop-number.number ≡ B.width = omega (arith, c.width-width.ensures.bits-of-word) in
+    let whole : c.loop-number.number ≡ B.width = omega (arith, c.width-width.ensures.bits_of_word) in
     record {
-      hit-of-each-column = λ j l. inv.built.0 j (omega arith);
-      bits-stay = inv.bits;
+      hit_of_each_column = λ j l. inv.built.0 j (omega arith);
+      bits_stay = inv.bits;
       marks_stay = inv.marks;
-      state-after = inv.ends ∙ ap (λ (n : ℕ). after_all B (upward n (one B c.args.value)) S) whole;
+      state_after = inv.ends ∙ ap (λ (n : ℕ). after_all B (upward n (one B c.args.value)) S) whole;
       build_stays = inv.stays;
     }

@@ -14,7 +14,7 @@ loop-number-preserved c =
     let i = c.loop-number.number in
     let inv = c.loop-number.invariant in
     let f : ℕ → Bool = λ j. ltb 0 (byte_of r j) in
-    let byte = c.byte-byte.ensures.byte-of-answers in
+    let byte = c.byte-byte.ensures.byte_of_answers in
     let more : count_below (i + 1) f ≡ count_below i f + cond (f i) 1 0 = ap (λ (n : ℕ). count_below n f) (add-one i) in
     let row : Row r start (i + 1) old c.if-place-buffer.buffer =
     elim c.if-place-buffer.branch [

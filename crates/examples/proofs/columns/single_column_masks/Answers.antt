@@ -39,11 +39,11 @@ leg = search rules
 pub returns : goal.returns
 returns c =
     record {
-      masks-6-5-3 = λ d. c.all-but-column.ensures.mask d ∷ c.all-but-column-2.ensures.mask d ∷ c.all-but-column-3.ensures.mask d ∷ [];
-      lengths-of-mlt1-and-chart = lengths;
-      norise-cell-does-not-rise-again = norise;
-      judged-array-has-4-misses = judged;
-      faults-that-hide-each-other-are-found = hidden;
-      chart-tells-what-misses-do-not = same;
-      search-transistor-stuck-on = leg;
+      masks_6_5_3 = λ d. c.all-but-column.ensures.mask d ∷ c.all-but-column-2.ensures.mask d ∷ c.all-but-column-3.ensures.mask d ∷ [];
+      lengths_of_mlt1_and_chart = lengths;
+      norise_cell_does_not_rise_again = norise;
+      judged_array_has_4_misses = judged;
+      faults_that_hide_each_other_are_found = hidden;
+      chart_tells_what_misses_do_not = same;
+      search_transistor_stuck_on = leg;
     }

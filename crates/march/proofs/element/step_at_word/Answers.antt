@@ -7,13 +7,13 @@ use Rattle.march.proofs.element.step_at_word.Goals as goal
 pub returns-in-Some : goal.returns-in-Some
 returns-in-Some c =
     record {
-      step-of-list = nth_found (at_word (min c.args.width 64) c.args.word.number) (listed c.args.operations.now) c.args.at _ _
-          c.in-Some.ensures.item-at-place (ap Some c.at_word.ensures.step-at-word);
+      step_of_list = nth_found (at_word (min c.args.width 64) c.args.word.number) (listed c.args.operations.now) c.args.at _ _
+          c.in-Some.ensures.item_at_place (ap Some c.at_word.ensures.step_at_word);
     }
 
 pub returns-in-None : goal.returns-in-None
 returns-in-None c =
     record {
-      step-of-list = nth_found (at_word (min c.args.width 64) c.args.word.number) (listed c.args.operations.now) c.args.at _ _
-          c.in-None.ensures.item-at-place refl;
+      step_of_list = nth_found (at_word (min c.args.width 64) c.args.word.number) (listed c.args.operations.now) c.args.at _ _
+          c.in-None.ensures.item_at_place refl;
     }

@@ -7,13 +7,13 @@ use Rattle.march.proofs.element.step_on_column.Goals as goal
 pub returns-in-Some : goal.returns-in-Some
 returns-in-Some c =
     record {
-      step-of-list = nth_found (on_column (min c.args.width 64) c.args.column.number) (listed c.args.comparisons.now) c.args.at _ _
-          c.in-Some.ensures.item-at-place (ap Some c.on-column.ensures.step-on-column);
+      step_of_list = nth_found (on_column (min c.args.width 64) c.args.column.number) (listed c.args.comparisons.now) c.args.at _ _
+          c.in-Some.ensures.item_at_place (ap Some c.on-column.ensures.step_on_column);
     }
 
 pub returns-in-None : goal.returns-in-None
 returns-in-None c =
     record {
-      step-of-list = nth_found (on_column (min c.args.width 64) c.args.column.number) (listed c.args.comparisons.now) c.args.at _ _
-          c.in-None.ensures.item-at-place refl;
+      step_of_list = nth_found (on_column (min c.args.width 64) c.args.column.number) (listed c.args.comparisons.now) c.args.at _ _
+          c.in-None.ensures.item_at_place refl;
     }

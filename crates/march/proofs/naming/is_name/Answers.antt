@@ -13,14 +13,14 @@ pub returns-then-not-is-letter-or-digit : goal.returns-then-not-is-letter-or-dig
 returns-then-not-is-letter-or-digit c =
     let xs = c.args.text.now in
     let i = c.loop-byte.byte-index in
-    let bad : every is_letter_or_digit xs ≡ false = sym c.loop-byte.invariant ∙ here xs i (omega arith) ∙ and_left _ _ (sym c.if-not-is-letter-or-digit.ensures.letter-or-digit) in
-    record { allowed-name = sym (and_right (leb 1 (length xs)) _ (and_right (leb (length xs) 16) _ bad)) }
+    let bad : every is_letter_or_digit xs ≡ false = sym c.loop-byte.invariant ∙ here xs i (omega arith) ∙ and_left _ _ (sym c.if-not-is-letter-or-digit.ensures.letter_or_digit) in
+    record { allowed_name = sym (and_right (leb 1 (length xs)) _ (and_right (leb (length xs) 16) _ bad)) }
 
 pub loop-byte-preserved : goal.loop-byte-preserved
 loop-byte-preserved c =
     let xs = c.args.text.now in
     let i = c.loop-byte.byte-index in
-    let good : is_letter_or_digit (get_or xs i 0) ≡ true = sym c.if-not-is-letter-or-digit.ensures.letter-or-digit in
+    let good : is_letter_or_digit (get_or xs i 0) ≡ true = sym c.if-not-is-letter-or-digit.ensures.letter_or_digit in
     sym (here xs i (omega arith) ∙ ap (λ b. b && every is_letter_or_digit (drop (i + 1) xs)) good) ∙ c.loop-byte.invariant
 
 pub returns : goal.returns
@@ -28,4 +28,4 @@ returns c =
     let xs = c.args.text.now in
     let i = c.loop-byte.byte-index in
     let all : every is_letter_or_digit xs ≡ true = sym c.loop-byte.invariant ∙ at_drop_all (every is_letter_or_digit) xs i (omega arith) in
-    record { allowed-name = sym (and_from _ _ (le-leb 1 (length xs) (omega arith)) (and_from _ _ (le-leb (length xs) 16 (omega arith)) all)) }
+    record { allowed_name = sym (and_from _ _ (le-leb 1 (length xs) (omega arith)) (and_from _ _ (le-leb (length xs) 16 (omega arith)) all)) }

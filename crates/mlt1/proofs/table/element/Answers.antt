@@ -12,6 +12,6 @@ pub returns-then-at-lt7 : goal.returns-then-at-lt7
 returns-then-at-lt7 c =
     let es = c.elements-test.result in
     let i = c.args.at in
-    let e = c.elements-test.ensures.test-mlt1 in
+    let e = c.elements-test.ensures.test_mlt1 in
     let l : i < length es = omega (arith, length-map es meant, ap length e) in
-    record { element-at-place = ap (option_map meant) (sym (slice_get-get_or es i _ l)) ∙ sym (nth_map meant es i) ∙ ap (λ xs. slice_get xs i) e }
+    record { element_at_place = ap (option_map meant) (sym (slice_get-get_or es i _ l)) ∙ sym (nth_map meant es i) ∙ ap (λ xs. slice_get xs i) e }

@@ -9,8 +9,8 @@ returns c =
     let told = c.line-of-three.ensures in
     let P : ℕ → ℕ → ℕ → Type 0 = λ n l p. MatchResult c.line-of-three.result (λ k. Made (refused_line n l p) k b c.line-of-three.new.buffer) (λ _. c.line-of-three.new.buffer ≡ b) in
     record {
-      asks-in-order = told.asks-in-order;
-      every_byte = subst (λ n. P n (layer_number c.args.fault.layer) (min c.args.fault.place largest_place)) c.number.ensures.number-of-reason
-          (subst (λ l. P c.number.result l (min c.args.fault.place largest_place)) c.layer-number.ensures.number-of-layer
-          (subst (λ p. P c.number.result c.layer-number.result p) c.written-place.ensures.place-up-to-the-largest told.every_byte));
+      asks_in_order = told.asks_in_order;
+      every_byte = subst (λ n. P n (layer_number c.args.fault.layer) (min c.args.fault.place largest_place)) c.number.ensures.number_of_reason
+          (subst (λ l. P c.number.result l (min c.args.fault.place largest_place)) c.layer-number.ensures.number_of_layer
+          (subst (λ p. P c.number.result c.layer-number.result p) c.written-place.ensures.place_up_to_the_largest told.every_byte));
     }

@@ -10,7 +10,7 @@ returns-then-misses-eq0 c =
     let told = c.line-of-two.ensures in
     let P : List ℕ → Type 0 = λ end. MatchResult c.line-of-two.result (λ k. Made (codes "run " ++ (decimal c.args.operations ++ (codes " misses " ++ (decimal n ++ end)))) k b c.line-of-two.new.buffer) (λ _. c.line-of-two.new.buffer ≡ b) in
     record {
-      asks-in-order = told.asks-in-order;
+      asks_in_order = told.asks_in_order;
       every_byte = subst P (sym (cond-true (eqb n 0) (codes " sound\n") (codes " faulty\n") (eq-eqb n 0 c.if-misses-eq0.true))) told.every_byte;
     }
 
@@ -21,6 +21,6 @@ returns-else-misses-eq0 c =
     let told = c.line-of-two-else-misses-eq0.ensures in
     let P : List ℕ → Type 0 = λ end. MatchResult c.line-of-two-else-misses-eq0.result (λ k. Made (codes "run " ++ (decimal c.args.operations ++ (codes " misses " ++ (decimal n ++ end)))) k b c.line-of-two-else-misses-eq0.new.buffer) (λ _. c.line-of-two-else-misses-eq0.new.buffer ≡ b) in
     record {
-      asks-in-order = told.asks-in-order;
+      asks_in_order = told.asks_in_order;
       every_byte = subst P (sym (cond-false (eqb n 0) (codes " sound\n") (codes " faulty\n") (ne_eqb n 0 c.if-misses-eq0.false))) told.every_byte;
     }

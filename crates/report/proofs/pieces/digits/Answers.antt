@@ -48,8 +48,8 @@ returns c =
     let from = c.loop-rest.from in
     let row = c.loop-rest.row in
     record {
-      digits-from-the-place = front row from (48 + rest) inv.2 (omega arith)
+      digits_from_the_place = front row from (48 + rest) inv.2 (omega arith)
           ∙ sym (inv.0 ∙ ap (λ xs. xs ++ drop from row) (decimal_digit rest (omega arith)));
-      place-within = omega arith;
-      ten-places = length-set row (from - 1) (48 + rest) ∙ inv.4;
+      place_within = omega arith;
+      ten_places = length-set row (from - 1) (48 + rest) ∙ inv.4;
     }

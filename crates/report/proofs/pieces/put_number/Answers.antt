@@ -9,9 +9,9 @@ returns c =
     let from = c.digits-from.result.1 in
     let told = c.digits-from.ensures in
     let part : take (10 - from) (drop from row) ≡ decimal c.args.number =
-    take_all (10 - from) (drop from row) (omega (arith, length-drop from row, told.ten-places)) ∙ told.digits-from-the-place in
+    take_all (10 - from) (drop from row) (omega (arith, length-drop from row, told.ten_places)) ∙ told.digits_from_the_place in
     record {
       written_over = c.put-text.ensures.written_over ∙ ap (over c.args.buffer.now c.args.at) part;
       place_after = c.put-text.ensures.place_after ∙ ap (λ xs. c.args.at + length xs) part;
-      at-most-ten = omega (arith, ap length told.digits-from-the-place, length-drop from row, told.ten-places);
+      at_most_ten = omega (arith, ap length told.digits_from_the_place, length-drop from row, told.ten_places);
     }

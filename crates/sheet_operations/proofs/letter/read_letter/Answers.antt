@@ -15,28 +15,28 @@ returns-in-err-token c =
 
 pub returns-then-spells : goal.returns-then-spells
 returns-then-spells c =
-    let x = on c.in-ok-token.ensures.reading.reads (known Write (c.spells.ensures.word-told.0 c.if-spells.true)) in
+    let x = on c.in-ok-token.ensures.reading.reads (known Write (c.spells.ensures.word_told.0 c.if-spells.true)) in
     record { reading = pinned (letter_next_one _ _) x; ahead = letter_next_ahead _ _ _ x }
 
 pub returns-then-spells-2 : goal.returns-then-spells-2
 returns-then-spells-2 c =
-    let x = on c.in-ok-token.ensures.reading.reads (known Read (c.spells-else-spells.ensures.word-told.0 c.if-spells-2.true)) in
+    let x = on c.in-ok-token.ensures.reading.reads (known Read (c.spells-else-spells.ensures.word_told.0 c.if-spells-2.true)) in
     record { reading = pinned (letter_next_one _ _) x; ahead = letter_next_ahead _ _ _ x }
 
 pub returns-then-spells-3 : goal.returns-then-spells-3
 returns-then-spells-3 c =
-    let x = on c.in-ok-token.ensures.reading.reads (known Compare (c.spells-else-spells-2.ensures.word-told.0 c.if-spells-3.true)) in
+    let x = on c.in-ok-token.ensures.reading.reads (known Compare (c.spells-else-spells-2.ensures.word_told.0 c.if-spells-3.true)) in
     record { reading = pinned (letter_next_one _ _) x; ahead = letter_next_ahead _ _ _ x }
 
 pub returns-then-spells-4 : goal.returns-then-spells-4
 returns-then-spells-4 c =
-    let x = on c.in-ok-token.ensures.reading.reads (known Erase (c.spells-else-spells-3.ensures.word-told.0 c.if-spells-4.true)) in
+    let x = on c.in-ok-token.ensures.reading.reads (known Erase (c.spells-else-spells-3.ensures.word_told.0 c.if-spells-4.true)) in
     record { reading = pinned (letter_next_one _ _) x; ahead = letter_next_ahead _ _ _ x }
 
 pub returns-else-spells-4 : goal.returns-else-spells-4
 returns-else-spells-4 c =
-    rw c.not-wanted.ensures.not-wanted-there
+    rw c.not-wanted.ensures.not_wanted_there
     record {
-      reading = pinned (letter_next_one _ _) (on c.in-ok-token.ensures.reading.reads (unknown (λ l. elim l as (λ l. Spells c.args.text.now c.in-ok-token.token (spelling l) → ⊥) [ Write ↦ λ s. clash _ (c.spells.ensures.word-told.1 s) c.if-spells.false | Read ↦ λ s. clash _ (c.spells-else-spells.ensures.word-told.1 s) c.if-spells-2.false | Compare ↦ λ s. clash _ (c.spells-else-spells-2.ensures.word-told.1 s) c.if-spells-3.false | Erase ↦ λ s. clash _ (c.spells-else-spells-3.ensures.word-told.1 s) c.if-spells-4.false ])));
+      reading = pinned (letter_next_one _ _) (on c.in-ok-token.ensures.reading.reads (unknown (λ l. elim l as (λ l. Spells c.args.text.now c.in-ok-token.token (spelling l) → ⊥) [ Write ↦ λ s. clash _ (c.spells.ensures.word_told.1 s) c.if-spells.false | Read ↦ λ s. clash _ (c.spells-else-spells.ensures.word_told.1 s) c.if-spells-2.false | Compare ↦ λ s. clash _ (c.spells-else-spells-2.ensures.word_told.1 s) c.if-spells-3.false | Erase ↦ λ s. clash _ (c.spells-else-spells-3.ensures.word_told.1 s) c.if-spells-4.false ])));
       ahead = tt;
     }

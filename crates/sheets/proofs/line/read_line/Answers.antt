@@ -10,12 +10,12 @@ use Rattle.sheets.proofs.line.read_line.Goals as goal
 pub returns-in-err-head : goal.returns-in-err-head
 returns-in-err-head c =
     let p = err_from_is_err_and c.from-residual.result c.from-residual.ensures.1 in
-    rw (p.1, p.2) record { reading = pinned (line_one c.args.text.now _ c.args.bracket) (off c.in-err-head.ensures.reading.reads); ahead = tt; name-stays = refl }
+    rw (p.1, p.2) record { reading = pinned (line_one c.args.text.now _ c.args.bracket) (off c.in-err-head.ensures.reading.reads); ahead = tt; name_stays = refl }
 
 pub returns-in-err-end : goal.returns-in-err-end
 returns-in-err-end c =
     let p = err_from_is_err_and c.from-residual-in-err-end.result c.from-residual-in-err-end.ensures.1 in
-    rw (p.1, p.2) record { reading = pinned (line_one c.args.text.now _ c.args.bracket) (on c.in-ok-head.ensures.reading.reads (off c.in-err-end.ensures.reading.reads)); ahead = tt; name-stays = c.read-line-body.ensures.name-stays }
+    rw (p.1, p.2) record { reading = pinned (line_one c.args.text.now _ c.args.bracket) (on c.in-ok-head.ensures.reading.reads (off c.in-err-end.ensures.reading.reads)); ahead = tt; name_stays = c.read-line-body.ensures.name_stays }
 
 pub returns : goal.returns
 returns c =
@@ -25,5 +25,5 @@ returns c =
     record {
       reading = pinned (line_one c.args.text.now _ c.args.bracket) (on h.reading.reads (on e.reading.reads (leaves _ _ _ w.reading.reads)));
       ahead = onward (λ e. e) _ _ _ c.want.result (omega (arith, h.ahead.after, e.ahead.after)) w.ahead;
-      name-stays = e.name-stays;
+      name_stays = e.name_stays;
     }

@@ -9,5 +9,5 @@ returns-in-Note c =
     record {
       reading = pinned (line_body_one _ _ _ _ _) (noted _ _ _ _ _ _ c.in-Note.is f.reading.reads);
       ahead = f.ahead;
-      name-stays = refl;
+      name_stays = refl;
     }

@@ -17,34 +17,34 @@ returns-in-err-token c =
 
 pub returns-then-spells : goal.returns-then-spells
 returns-then-spells c =
-    let x = on c.in-ok-token.ensures.reading.reads (known Note (c.spells.ensures.word-told.0 c.if-spells.true)) in
+    let x = on c.in-ok-token.ensures.reading.reads (known Note (c.spells.ensures.word_told.0 c.if-spells.true)) in
     record { reading = pinned (line_word_one _ _) x; ahead = line_word_ahead _ _ _ x }
 
 pub returns-then-spells-2 : goal.returns-then-spells-2
 returns-then-spells-2 c =
-    let x = on c.in-ok-token.ensures.reading.reads (known (Element Up) (c.spells-else-spells.ensures.word-told.0 c.if-spells-2.true)) in
+    let x = on c.in-ok-token.ensures.reading.reads (known (Element Up) (c.spells-else-spells.ensures.word_told.0 c.if-spells-2.true)) in
     record { reading = pinned (line_word_one _ _) x; ahead = line_word_ahead _ _ _ x }
 
 pub returns-then-spells-3 : goal.returns-then-spells-3
 returns-then-spells-3 c =
-    let x = on c.in-ok-token.ensures.reading.reads (known (Element Down) (c.spells-else-spells-2.ensures.word-told.0 c.if-spells-3.true)) in
+    let x = on c.in-ok-token.ensures.reading.reads (known (Element Down) (c.spells-else-spells-2.ensures.word_told.0 c.if-spells-3.true)) in
     record { reading = pinned (line_word_one _ _) x; ahead = line_word_ahead _ _ _ x }
 
 pub returns-then-spells-4 : goal.returns-then-spells-4
 returns-then-spells-4 c =
-    let x = on c.in-ok-token.ensures.reading.reads (known (Element Columns) (c.spells-else-spells-3.ensures.word-told.0 c.if-spells-4.true)) in
+    let x = on c.in-ok-token.ensures.reading.reads (known (Element Columns) (c.spells-else-spells-3.ensures.word_told.0 c.if-spells-4.true)) in
     record { reading = pinned (line_word_one _ _) x; ahead = line_word_ahead _ _ _ x }
 
 pub returns-else-spells-4 : goal.returns-else-spells-4
 returns-else-spells-4 c =
-    rw c.not-wanted.ensures.not-wanted-there
+    rw c.not-wanted.ensures.not_wanted_there
     record {
       reading = pinned (line_word_one _ _) (on c.in-ok-token.ensures.reading.reads (unknown none));
       ahead = tt;
     }
   where
     none : (w : LineWord) → Spells c.args.text.now c.in-ok-token.token (line_spelling w) → ⊥
-    none Note = λ s. clash _ (c.spells.ensures.word-told.1 s) c.if-spells.false
-    none (Element Up) = λ s. clash _ (c.spells-else-spells.ensures.word-told.1 s) c.if-spells-2.false
-    none (Element Down) = λ s. clash _ (c.spells-else-spells-2.ensures.word-told.1 s) c.if-spells-3.false
-    none (Element Columns) = λ s. clash _ (c.spells-else-spells-3.ensures.word-told.1 s) c.if-spells-4.false
+    none Note = λ s. clash _ (c.spells.ensures.word_told.1 s) c.if-spells.false
+    none (Element Up) = λ s. clash _ (c.spells-else-spells.ensures.word_told.1 s) c.if-spells-2.false
+    none (Element Down) = λ s. clash _ (c.spells-else-spells-2.ensures.word_told.1 s) c.if-spells-3.false
+    none (Element Columns) = λ s. clash _ (c.spells-else-spells-3.ensures.word_told.1 s) c.if-spells-4.false

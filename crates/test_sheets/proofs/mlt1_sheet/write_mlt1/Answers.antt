@@ -21,14 +21,14 @@ returns c =
     let t = c.mlt1-test.result in
     let b = c.args.buffer.now in
     let r = c.write-test.result in
-    let named : name_of t ≡ codes "mlt1" = c.mlt1-test.ensures.named-mlt1 in
-    let elements : elements_of t ≡ mlt1 = c.mlt1-test.ensures.elements-of-mlt1 in
+    let named : name_of t ≡ codes "mlt1" = c.mlt1-test.ensures.named_mlt1 in
+    let elements : elements_of t ≡ mlt1 = c.mlt1-test.ensures.elements_of_mlt1 in
     let text : sheet_text t ≡ mlt1_sheet = λ j. sheet (named j) (elements j) in
     let no : first_no (test_questions (name_of t) (elements_of t) b) ≡ first_no (ask (fits 0 mlt1_sheet b) 61 ∷ []) =
     λ j. first_no (test_questions (named j) (elements j) b) in
     let new = c.write-test.new.buffer in
     record {
-      asks-room = same_no (test_questions (name_of t) (elements_of t) b) (ask (fits 0 mlt1_sheet b) 61 ∷ []) r no c.write-test.ensures.asks-in-order;
-      sheet-written = subst (λ xs. MatchResult r (λ n. (n ≡ length xs) × (new ≡ over b 0 xs)) (λ _. new ≡ b)) text c.write-test.ensures.sheet-written;
-      reads-as-mlt1 = reads_back (codes "mlt1") mlt1 refl refl;
+      asks_room = same_no (test_questions (name_of t) (elements_of t) b) (ask (fits 0 mlt1_sheet b) 61 ∷ []) r no c.write-test.ensures.asks_in_order;
+      sheet_written = subst (λ xs. MatchResult r (λ n. (n ≡ length xs) × (new ≡ over b 0 xs)) (λ _. new ≡ b)) text c.write-test.ensures.sheet_written;
+      reads_as_mlt1 = reads_back (codes "mlt1") mlt1 refl refl;
     }

@@ -25,10 +25,10 @@ write-element-state-requires c =
     let l : i < length es = c.loop-element-test.true in
     let inside : i < length (map meant es) = omega (arith, length-map es meant) in
     let is = mapped_at meant es i bare l in
-    let filled : is_filled e ≡ true = ap is_filled (sym is) ∙ every_at is_filled (map meant es) i e c.requires.each-filled inside in
+    let filled : is_filled e ≡ true = ap is_filled (sym is) ∙ every_at is_filled (map meant es) i e c.requires.each_filled inside in
     record {
-      few-elements = omega (arith, inv.1, c.requires.few-elements);
-      some-operation = leb-true 1 n (and_parts (leb 1 n) (leb n 8) filled).0;
+      few_elements = omega (arith, inv.1, c.requires.few_elements);
+      some_operation = leb-true 1 n (and_parts (leb 1 n) (leb n 8) filled).0;
       room = omega (arith, inv.0.place, joined_within element_line (map meant es) i e inside is, c.loop-element.auto.buffer, c.requires.room);
     }
 
@@ -46,8 +46,8 @@ loop-element-preserved c =
     omega (arith, joined_within element_line (map meant es) i e inside is, c.requires.room) in (
       pieces_more element_line c.args.state.at (map meant es) c.args.buffer.now i c.loop-element.buffer c.write-element-state.new.buffer
           c.loop-element.state.at c.write-element-state.result.at e
-          inv.0 inside is room (ap (λ s. s.at) wrote.state-after) wrote.line-written,
-      omega (arith, ap (λ s. s.elements) wrote.state-after, inv.1),
+          inv.0 inside is room (ap (λ s. s.at) wrote.state_after) wrote.line_written,
+      omega (arith, ap (λ s. s.elements) wrote.state_after, inv.1),
     )
 
 pub returns : goal.returns
@@ -59,4 +59,4 @@ returns c =
     let both = pieces_all element_line s.at (map meant es) c.args.buffer.now c.loop-element.element-index c.loop-element.buffer c.loop-element.state.at
     inv.0 (omega (arith, length-map es meant)) in
     let counted : c.loop-element.state.elements ≡ s.elements + length es = inv.1 ∙ ap (λ (n : ℕ). s.elements + n) end in
-    record { lines-written = both.1; state-after = λ j. between (both.0 j) (counted j) }
+    record { lines_written = both.1; state_after = λ j. between (both.0 j) (counted j) }

@@ -13,13 +13,13 @@ use Rattle.test_sheets.proofs.sheets.write_operations.Goals as goal
 pub loop-at-init : goal.loop-at-init
 loop-at-init c =
     let os = operations_of (meant c.args.element.now) in
-    (pieces_none operation_piece c.args.state.at os c.args.buffer.now, refl, refl, c.requires.just-opened)
+    (pieces_none operation_piece c.args.state.at os c.args.buffer.now, refl, refl, c.requires.just_opened)
 
 pub unreachable-requires : goal.unreachable-requires
 unreachable-requires c =
     let os = operations_of (meant c.args.element.now) in
-    let l : c.loop-at.at < length os = omega (arith, c.operation-count-at-end.ensures.how-many-operations) in
-    not_past os c.loop-at.at Erase l c.in-default.ensures.operation-at-place
+    let l : c.loop-at.at < length os = omega (arith, c.operation-count-at-end.ensures.how_many_operations) in
+    not_past os c.loop-at.at Erase l c.in-default.ensures.operation_at_place
 
 pub unreachable-requires-in-Err : goal.unreachable-requires-in-Err
 unreachable-requires-in-Err c =
@@ -28,13 +28,13 @@ unreachable-requires-in-Err c =
     let i = c.loop-at.at in
     let o = c.in-Some.operation in
     let inv = c.loop-at.invariant in
-    let l : i < length os = omega (arith, c.operation-count-at-end.ensures.how-many-operations) in
-    let is = found os i o l c.in-Some.ensures.operation-at-place in
+    let l : i < length os = omega (arith, c.operation-count-at-end.ensures.how_many_operations) in
+    let is = found os i o l c.in-Some.ensures.operation_at_place in
     let kept : length c.loop-at.buffer ≡ length c.args.buffer.now = c.loop-at.auto.buffer in
     let room : c.loop-at.state.at + length (operation_piece o) ≤ length c.loop-at.buffer =
     omega (arith, joined_within operation_piece os i o l is, inv.0.place, c.requires.room) in
-    refused_not_0 _ _ c.in-Err.ensures.asks-in-order
-    (operation_granted e i c.loop-at.buffer c.loop-at.state o (inv.1 ∙ c.requires.same-order) inv.3 (operations_few c.args.element.now) l is room)
+    refused_not_0 _ _ c.in-Err.ensures.asks_in_order
+    (operation_granted e i c.loop-at.buffer c.loop-at.state o (inv.1 ∙ c.requires.same_order) inv.3 (operations_few c.args.element.now) l is room)
 
 pub loop-at-preserved : goal.loop-at-preserved
 loop-at-preserved c =
@@ -42,11 +42,11 @@ loop-at-preserved c =
     let i = c.loop-at.at in
     let o = c.in-Some.operation in
     let inv = c.loop-at.invariant in
-    let l : i < length os = omega (arith, c.operation-count-at-end.ensures.how-many-operations) in
-    let is = found os i o l c.in-Some.ensures.operation-at-place in
+    let l : i < length os = omega (arith, c.operation-count-at-end.ensures.how_many_operations) in
+    let is = found os i o l c.in-Some.ensures.operation_at_place in
     let room : c.args.state.at + length (flat_map operation_piece (take i os)) + length (operation_piece o) ≤ length c.args.buffer.now =
     omega (arith, joined_within operation_piece os i o l is, c.requires.room) in
-    let wrote = c.in-Ok.ensures.operation-written in (
+    let wrote = c.in-Ok.ensures.operation_written in (
       pieces_more operation_piece c.args.state.at os c.args.buffer.now i c.loop-at.buffer c.write.new.buffer c.loop-at.state.at c.in-Ok.next.at o
           inv.0 l is room (ap (λ s. s.at) wrote.0) wrote.1,
       ap (λ s. s.order) wrote.0 ∙ inv.1,
@@ -58,10 +58,10 @@ pub returns : goal.returns
 returns c =
     let os = operations_of (meant c.args.element.now) in
     let inv = c.loop-at.invariant in
-    let end : c.loop-at.at ≡ length os = omega (arith, c.operation-count-at-end.ensures.how-many-operations, c.loop-at.auto.at_end) in
+    let end : c.loop-at.at ≡ length os = omega (arith, c.operation-count-at-end.ensures.how_many_operations, c.loop-at.auto.at_end) in
     let both = pieces_all operation_piece c.args.state.at os c.args.buffer.now c.loop-at.at c.loop-at.buffer c.loop-at.state.at inv.0 (omega arith) in
     let counted = inv.3 ∙ end in
     record {
-      operations-written = both.1;
-      state-after = λ j. record { at = both.0 j; order = inv.1 j; elements = inv.2 j; operations = counted j };
+      operations_written = both.1;
+      state_after = λ j. record { at = both.0 j; order = inv.1 j; elements = inv.2 j; operations = counted j };
     }

@@ -34,16 +34,16 @@ pub returns-then-buffer-sheet-length : goal.returns-then-buffer-sheet-length
 returns-then-buffer-sheet-length c =
     let t = c.args.test.now in
     let b = c.args.buffer.now in
-    let whole : is_whole (elements_of t) ≡ true = sym c.if-not-is-whole.ensures.decides-whole in
+    let whole : is_whole (elements_of t) ≡ true = sym c.if-not-is-whole.ensures.decides_whole in
     let past : fits 0 (sheet_text t) b ≡ false =
-    lt-leb (0 + length (sheet_text t)) (length b) (omega (arith, c.sheet-length.ensures.length-of-sheet, c.if-buffer-sheet-length.true)) in
+    lt-leb (0 + length (sheet_text t)) (length b) (omega (arith, c.sheet-length.ensures.length_of_sheet, c.if-buffer-sheet-length.true)) in
     record {
-      asks-in-order = subst (λ (n : ℕ). Refused n c.of-call-then-buffer-sheet-length.result) (sym (cond-true (is_whole (elements_of t)) _ 62 whole ∙ cond-false (fits 0 (sheet_text t) b) 0 61 past))
-          c.of-call-then-buffer-sheet-length.ensures.refused-without-text;
-      sheet-written = refl;
+      asks_in_order = subst (λ (n : ℕ). Refused n c.of-call-then-buffer-sheet-length.result) (sym (cond-true (is_whole (elements_of t)) _ 62 whole ∙ cond-false (fits 0 (sheet_text t) b) 0 61 past))
+          c.of-call-then-buffer-sheet-length.ensures.refused_without_text;
+      sheet_written = refl;
       reads_back = tt;
-      every-sheet-reads-back = reads_back;
-      every-list-of-pieces-reads-back = pieces_read_back;
+      every_sheet_reads_back = reads_back;
+      every_list_of_pieces_reads_back = pieces_read_back;
     }
 
 -- the beginning is granted where the sheet fits
@@ -58,23 +58,23 @@ returns-in-err-begun c =
     let t = c.args.test.now in
     let b = c.args.buffer.now in
     let n = c.as-bytes.result.now in
-    let same : n ≡ name_of t = c.as-bytes.ensures.letters ∙ c.name-name.ensures.its-name in
-    let room : length (sheet_text t) ≤ length b = omega (arith, c.sheet-length.ensures.length-of-sheet, c.if-buffer-sheet-length.false) in
-    absurd (refused_not_0 _ _ c.in-err-begun.ensures.asks-in-order (begin_granted (name_of t) n b (elements_of t) same t.name.allowed room))
+    let same : n ≡ name_of t = c.as-bytes.ensures.letters ∙ c.name-name.ensures.its_name in
+    let room : length (sheet_text t) ≤ length b = omega (arith, c.sheet-length.ensures.length_of_sheet, c.if-buffer-sheet-length.false) in
+    absurd (refused_not_0 _ _ c.in-err-begun.ensures.asks_in_order (begin_granted (name_of t) n b (elements_of t) same t.name.allowed room))
 
 pub write-elements-filled-requires : goal.write-elements-filled-requires
 write-elements-filled-requires c =
     let t = c.args.test.now in
     let b = c.args.buffer.now in
     let es = c.elements.result.now in
-    let are : map meant es ≡ elements_of t = c.elements.ensures.all-elements in
-    let begun = c.in-ok-begun.ensures.sheet-begun in
-    let same : c.as-bytes.result.now ≡ name_of t = c.as-bytes.ensures.letters ∙ c.name-name.ensures.its-name in
-    let parts = whole_parts (elements_of t) (sym c.if-not-is-whole.ensures.decides-whole) in
-    let room : length (sheet_text t) ≤ length b = omega (arith, c.sheet-length.ensures.length-of-sheet, c.if-buffer-sheet-length.false) in
+    let are : map meant es ≡ elements_of t = c.elements.ensures.all_elements in
+    let begun = c.in-ok-begun.ensures.sheet_begun in
+    let same : c.as-bytes.result.now ≡ name_of t = c.as-bytes.ensures.letters ∙ c.name-name.ensures.its_name in
+    let parts = whole_parts (elements_of t) (sym c.if-not-is-whole.ensures.decides_whole) in
+    let room : length (sheet_text t) ≤ length b = omega (arith, c.sheet-length.ensures.length_of_sheet, c.if-buffer-sheet-length.false) in
     record {
-      few-elements = omega (arith, ap (λ s. s.elements) begun.0, parts.1, ap length are, length-map es meant);
-      each-filled = ap (every is_filled) are ∙ parts.2;
+      few_elements = omega (arith, ap (λ s. s.elements) begun.0, parts.1, ap length are, length-map es meant);
+      each_filled = ap (every is_filled) are ∙ parts.2;
       room = omega (
         arith,
         ap (λ s. s.at) begun.0,
@@ -91,14 +91,14 @@ unreachable-requires c =
     let t = c.args.test.now in
     let b = c.args.buffer.now in
     let es = c.elements.result.now in
-    let are : map meant es ≡ elements_of t = c.elements.ensures.all-elements in
-    let begun = c.in-ok-begun.ensures.sheet-begun in
-    let same : c.as-bytes.result.now ≡ name_of t = c.as-bytes.ensures.letters ∙ c.name-name.ensures.its-name in
-    let parts = whole_parts (elements_of t) (sym c.if-not-is-whole.ensures.decides-whole) in
-    let room : length (sheet_text t) ≤ length b = omega (arith, c.sheet-length.ensures.length-of-sheet, c.if-buffer-sheet-length.false) in
+    let are : map meant es ≡ elements_of t = c.elements.ensures.all_elements in
+    let begun = c.in-ok-begun.ensures.sheet_begun in
+    let same : c.as-bytes.result.now ≡ name_of t = c.as-bytes.ensures.letters ∙ c.name-name.ensures.its_name in
+    let parts = whole_parts (elements_of t) (sym c.if-not-is-whole.ensures.decides_whole) in
+    let room : length (sheet_text t) ≤ length b = omega (arith, c.sheet-length.ensures.length_of_sheet, c.if-buffer-sheet-length.false) in
     let s = c.write-elements-filled.result in
     let cur = c.write-elements-filled.new.buffer in
-    let after = c.write-elements-filled.ensures.state-after in
+    let after = c.write-elements-filled.ensures.state_after in
     let fit : s.at + length ending ≤ length cur =
     omega (
       arith,
@@ -112,7 +112,7 @@ unreachable-requires c =
       c.write-elements-filled.auto.buffer,
     ) in
     let some : 0 < s.elements = omega (arith, ap (λ s. s.elements) after, ap (λ s. s.elements) begun.0, parts.0, ap length are, length-map es meant) in
-    refused_not_0 _ _ c.in-Err.ensures.asks-in-order
+    refused_not_0 _ _ c.in-Err.ensures.asks_in_order
     (both_yes (fits s.at ending cur) (ltb 0 s.elements) 61 62 (le-leb (s.at + length ending) (length cur) fit) (lt-ltb 0 s.elements some))
 
 pub returns : goal.returns
@@ -121,21 +121,21 @@ returns c =
     let b = c.args.buffer.now in
     let n = c.as-bytes.result.now in
     let x = beginning n in
-    let are : map meant c.elements.result.now ≡ elements_of t = c.elements.ensures.all-elements in
+    let are : map meant c.elements.result.now ≡ elements_of t = c.elements.ensures.all_elements in
     let y = flat_map element_line (map meant c.elements.result.now) in
-    let begun = c.in-ok-begun.ensures.sheet-begun in
+    let begun = c.in-ok-begun.ensures.sheet_begun in
     let filled = c.write-elements-filled.ensures in
-    let ended = c.in-Ok.ensures.ending-written in
-    let same : n ≡ name_of t = c.as-bytes.ensures.letters ∙ c.name-name.ensures.its-name in
-    let whole : is_whole (elements_of t) ≡ true = sym c.if-not-is-whole.ensures.decides-whole in
-    let room : length (sheet_text t) ≤ length b = omega (arith, c.sheet-length.ensures.length-of-sheet, c.if-buffer-sheet-length.false) in
+    let ended = c.in-Ok.ensures.ending_written in
+    let same : n ≡ name_of t = c.as-bytes.ensures.letters ∙ c.name-name.ensures.its_name in
+    let whole : is_whole (elements_of t) ≡ true = sym c.if-not-is-whole.ensures.decides_whole in
+    let room : length (sheet_text t) ≤ length b = omega (arith, c.sheet-length.ensures.length_of_sheet, c.if-buffer-sheet-length.false) in
     let long = sheet_length (name_of t) (elements_of t) in
     let short = begin_length n in
     let names = ap length same in
     let lines = ap (λ xs. length (flat_map element_line xs)) are in
     let place : c.in-ok-begun.begun.at ≡ 0 + length x = omega (arith, ap (λ s. s.at) begun.0) in
     let first : Stands b 0 x c.in-ok-begun.begun.at c.begin.new.buffer = record { ends = place; text = begun.1 } in
-    let second = stands_more b 0 x y _ c.write-elements-filled.result.at _ _ first filled.lines-written (ap (λ s. s.at) filled.state-after) (omega arith) in
+    let second = stands_more b 0 x y _ c.write-elements-filled.result.at _ _ first filled.lines_written (ap (λ s. s.at) filled.state_after) (omega arith) in
     let third = stands_more b 0 (x ++ y) ending _ c.in-Ok.length _ _ second ended.1 ended.0 (omega (arith, length-append x y)) in
     let text : (x ++ y) ++ ending ≡ sheet_text t = append_assoc x y ending ∙ (λ j. sheet (same j) (are j)) in
     let count : c.in-Ok.length ≡ length (sheet_text t) = omega (arith, third.ends, ap length text) in
@@ -143,20 +143,20 @@ returns c =
     let front : take c.in-Ok.length c.end.new.buffer ≡ sheet_text t =
     ap (take c.in-Ok.length) bytes ∙ take_at (sheet_text t) _ c.in-Ok.length (sym count) in
     record {
-      asks-in-order = both_yes (is_whole (elements_of t)) (fits 0 (sheet_text t) b) 62 61 whole (le-leb (0 + length (sheet_text t)) (length b) (omega arith));
-      sheet-written = (count, bytes);
+      asks_in_order = both_yes (is_whole (elements_of t)) (fits 0 (sheet_text t) b) 62 61 whole (le-leb (0 + length (sheet_text t)) (length b) (omega arith));
+      sheet_written = (count, bytes);
       reads_back = subst (λ xs. Says xs (name_of t) (elements_of t)) (sym front) (reads_back (name_of t) (elements_of t) t.name.allowed whole);
-      every-sheet-reads-back = reads_back;
-      every-list-of-pieces-reads-back = pieces_read_back;
+      every_sheet_reads_back = reads_back;
+      every_list_of_pieces_reads_back = pieces_read_back;
     }
 
 pub returns-then-not-is-whole : goal.returns-then-not-is-whole
 returns-then-not-is-whole c =
     let t = c.args.test.now in
     record {
-      asks-in-order = subst (λ (n : ℕ). Refused n c.of-call.result) (sym (cond-false (is_whole (elements_of t)) _ 62 (sym c.if-not-is-whole.ensures.decides-whole))) c.of-call.ensures.refused-without-text;
-      sheet-written = refl;
+      asks_in_order = subst (λ (n : ℕ). Refused n c.of-call.result) (sym (cond-false (is_whole (elements_of t)) _ 62 (sym c.if-not-is-whole.ensures.decides_whole))) c.of-call.ensures.refused_without_text;
+      sheet_written = refl;
       reads_back = tt;
-      every-sheet-reads-back = reads_back;
-      every-list-of-pieces-reads-back = pieces_read_back;
+      every_sheet_reads_back = reads_back;
+      every_list_of_pieces_reads_back = pieces_read_back;
     }

@@ -16,26 +16,26 @@ use Rattle.text_judge.proofs.judging.judge_text.Goals as goal
 
 pub returns-then-chart-lt-CHART-BYTES : goal.returns-then-chart-lt-CHART-BYTES
 returns-then-chart-lt-CHART-BYTES c =
-    let f = call_fault _ c.of-call.result BufferTooShort c.of-call.ensures.reason-given c.of-call.ensures.refused-without-text in
+    let f = call_fault _ c.of-call.result BufferTooShort c.of-call.ensures.reason_given c.of-call.ensures.refused_without_text in
     record {
-      text-judged = subst (λ f. Reading (JudgeCall (vec_len c.args.records) (length c.args.chart.now) c.args.text.now) (Err f)) (sym f) (pinned (judge_one _ _ _) (off (too_little (omega arith))));
-      refused-leaves-the-chart = refl;
-      records-handed-back = λ bytes. absurd (omega arith);
-      untouched-without-memory = (λ _. refl, λ _. refl);
+      text_judged = subst (λ f. Reading (JudgeCall (vec_len c.args.records) (length c.args.chart.now) c.args.text.now) (Err f)) (sym f) (pinned (judge_one _ _ _) (off (too_little (omega arith))));
+      refused_leaves_the_chart = refl;
+      records_handed_back = λ bytes. absurd (omega arith);
+      untouched_without_memory = (λ _. refl, λ _. refl);
     }
 
 pub returns-in-Err : goal.returns-in-Err
 returns-in-Err c =
     record {
-      text-judged = pinned (judge_one _ _ _) (on (enough (omega arith)) c.in-Err.ensures.text-read.reads);
-      refused-leaves-the-chart = refl;
-      records-handed-back = λ bytes. c.in-Err.ensures.records-afterwards;
-      untouched-without-memory = (λ few. absurd (omega arith), c.in-Err.ensures.untouched-without-memory);
+      text_judged = pinned (judge_one _ _ _) (on (enough (omega arith)) c.in-Err.ensures.text_read.reads);
+      refused_leaves_the_chart = refl;
+      records_handed_back = λ bytes. c.in-Err.ensures.records_afterwards;
+      untouched_without_memory = (λ few. absurd (omega arith), c.in-Err.ensures.untouched_without_memory);
     }
 
 pub returns-in-Ok-judge-array : goal.returns-in-Ok-judge-array
 returns-in-Ok-judge-array c =
-    let m = c.in-Ok.ensures.text-read in
+    let m = c.in-Ok.ensures.text_read in
     let j = c.in-Ok-judge-array.ensures in
     let p = c.in-Ok.array in
     let d = m.description in
@@ -43,7 +43,7 @@ returns-in-Ok-judge-array c =
     subst (λ B. Judges B (new_state B) c.in-Ok-judge-array.judged.judgement) m.build (subst (λ S. Judges (build_of p) S c.in-Ok-judge-array.judged.judgement) m.state j.judgement_is_right) in
     let none = sound_without_lines d.words d.width d.defects m.inside (subst (Exactly d.defects) m.build m.each_defect_and_no_other) in
     record {
-      text-judged = record {
+      text_judged = record {
         description = d;
         reading = pinned (judge_one _ _ _) (on (enough (omega arith)) m.reading.reads);
         judgement_is_right = told;
@@ -52,15 +52,15 @@ returns-in-Ok-judge-array c =
         build_stays = j.build_stays ∙ m.build;
         only_these_operations = j.only_these_operations ∙ ap (judged_state (build_of p)) m.state ∙ ap (λ B. judged_state B (new_state B)) m.build;
       };
-      refused-leaves-the-chart = j.every_byte.size;
-      records-handed-back = c.in-Ok.ensures.untouched-without-memory;
-      untouched-without-memory = omega arith;
+      refused_leaves_the_chart = j.every_byte.size;
+      records_handed_back = c.in-Ok.ensures.untouched_without_memory;
+      untouched_without_memory = omega arith;
     }
 
 -- nothing of the judging is refused
 pub returns-in-Err-judge-array : goal.returns-in-Err-judge-array
 returns-in-Err-judge-array c =
-    let m = c.in-Ok.ensures.text-read in
+    let m = c.in-Ok.ensures.text_read in
     let p = c.in-Ok.array in
     let f = well_formed p in
-    absurd (refused_not_0 _ _ c.in-Err-judge-array.ensures.asks-in-order (judging_granted (build_of p) (state_of p) (length c.args.chart.now) f.few_words f.few_bits (ap (λ S. S.tally) m.state) (omega arith)))
+    absurd (refused_not_0 _ _ c.in-Err-judge-array.ensures.asks_in_order (judging_granted (build_of p) (state_of p) (length c.args.chart.now) f.few_words f.few_bits (ap (λ S. S.tally) m.state) (omega arith)))

@@ -12,7 +12,7 @@ loop-operation-init c = (omega arith, omega arith)
 
 pub overflow-add-count : goal.overflow-add-count
 overflow-add-count c =
-    omega (arith, c.loop-operation.invariant.1, ap length c.as-slice-operation-items.ensures.all-items, length-take (min c.args.operations.now.count 8) c.args.operations.now.items)
+    omega (arith, c.loop-operation.invariant.1, ap length c.as-slice-operation-items.ensures.all_items, length-take (min c.args.operations.now.count 8) c.args.operations.now.items)
 
 pub loop-operation-preserved : goal.loop-operation-preserved
 loop-operation-preserved c =
@@ -20,7 +20,7 @@ loop-operation-preserved c =
     let i = c.loop-operation.operation-index in
     let inv = c.loop-operation.invariant in
     let next = among_turn xs i (Write false) c.loop-operation-test.true in
-    let test = c.reads-or-compares.ensures.read-or-compare in
+    let test = c.reads-or-compares.ensures.read_or_compare in
     elim c.if-reads-or-compares.branch [
       | then-reads-or-compares y ↦
           let one = cond-true {A = ℕ} (reads_or_compares (get_or xs i (Write false))) 1 0 (sym test ∙ y.if-reads-or-compares.true) in
@@ -34,10 +34,10 @@ pub returns : goal.returns
 returns c =
     let xs = c.as-slice-operation-items.result.now in
     let i = c.loop-operation.operation-index in
-    let same = c.as-slice-operation-items.ensures.all-items in
+    let same = c.as-slice-operation-items.ensures.all_items in
     let inv = c.loop-operation.invariant in
     let none : checks_among (drop i xs) ≡ 0 = ap checks_among (drop_of_length-le xs c.loop-operation-test.false) in
     record {
-      reads-and-compares = omega (arith, inv.0, ap checks_among same);
-      at-most-eight = omega (arith, inv.1, ap length same, length-take (min c.args.operations.now.count 8) c.args.operations.now.items);
+      reads_and_compares = omega (arith, inv.0, ap checks_among same);
+      at_most_eight = omega (arith, inv.1, ap length same, length-take (min c.args.operations.now.count 8) c.args.operations.now.items);
     }

@@ -8,6 +8,6 @@ pub returns-in-Columns : goal.returns-in-Columns
 returns-in-Columns c =
     let f = c.in-Columns.comparisons in
     record {
-      reads-and-compares = c.len.ensures.item_count ∙ ap (λ e. checks_of (meant e)) (sym c.in-Columns.is);
-      at-most-eight = omega (arith, c.len.ensures.item_count, length-take (min f.count 8) f.items);
+      reads_and_compares = c.len.ensures.item_count ∙ ap (λ e. checks_of (meant e)) (sym c.in-Columns.is);
+      at_most_eight = omega (arith, c.len.ensures.item_count, length-take (min f.count 8) f.items);
     }

@@ -17,9 +17,9 @@ overflow-add-count c =
       arith,
       c.loop-element.invariant.1,
       elements_few c.args.test.now,
-      ap length c.elements-element-items.ensures.all-elements,
+      ap length c.elements-element-items.ensures.all_elements,
       length-map rs meant,
-      mul-le-mul c.checks-of.ensures.at-most-eight (let l : c.visits.result ≤ 65535 = omega arith in l),
+      mul-le-mul c.checks-of.ensures.at_most_eight (let l : c.visits.result ≤ 65535 = omega arith in l),
     )
 
 pub loop-element-preserved : goal.loop-element-preserved
@@ -30,9 +30,9 @@ loop-element-preserved c =
     let i = c.loop-element.element-index in
     let next : check_count (schedule n w (map meant (drop i rs))) ≡ c.checks-of.result * c.visits.result + check_count (schedule n w (map meant (drop (i + 1) rs))) =
     count_turn n w rs i beyond c.loop-element-test.true
-    ∙ ap (λ (k : ℕ). k + check_count (schedule n w (map meant (drop (i + 1) rs)))) (sym (ap₂ (λ (a b : ℕ). a * b) c.checks-of.ensures.reads-and-compares c.visits.ensures.visit-count)) in (
+    ∙ ap (λ (k : ℕ). k + check_count (schedule n w (map meant (drop (i + 1) rs)))) (sym (ap₂ (λ (a b : ℕ). a * b) c.checks-of.ensures.reads_and_compares c.visits.ensures.visit_count)) in (
       omega (arith, c.loop-element.invariant.0),
-      omega (arith, c.loop-element.invariant.1, mul-le-mul c.checks-of.ensures.at-most-eight (let l : c.visits.result ≤ 65535 = omega arith in l)),
+      omega (arith, c.loop-element.invariant.1, mul-le-mul c.checks-of.ensures.at_most_eight (let l : c.visits.result ≤ 65535 = omega arith in l)),
     )
 
 pub returns : goal.returns
@@ -42,4 +42,4 @@ returns c =
     let rs = c.elements-element-items.result.now in
     let i = c.loop-element.element-index in
     let none : check_count (schedule n w (map meant (drop i rs))) ≡ 0 = ap (λ xs. check_count (schedule n w (map meant xs))) (drop_of_length-le rs c.loop-element-test.false) in
-    record { reads-and-compares = omega (arith, c.loop-element.invariant.0, ap (λ es. check_count (schedule n w es)) c.elements-element-items.ensures.all-elements) }
+    record { reads_and_compares = omega (arith, c.loop-element.invariant.0, ap (λ es. check_count (schedule n w es)) c.elements-element-items.ensures.all_elements) }

@@ -15,16 +15,16 @@ returns-then-buffer-outcomes g c =
     let x = c.args.array.now in
     let B = m.build x in
     let es = elements_of c.args.test.now in
-    let count = counted_on B es _ _ _ c.words.ensures.word_count c.width.ensures.bits-of-word (m.formed x).few_bits c.outcome-count-outcomes.ensures.reads-and-compares in
+    let count = counted_on B es _ _ _ c.words.ensures.word_count c.width.ensures.bits_of_word (m.formed x).few_bits c.outcome-count-outcomes.ensures.reads_and_compares in
     let short : length c.args.buffer.now < check_count (steps_on B es) = omega (arith, c.if-buffer-outcomes.true, count) in
     record {
-      asks-room = subst (λ (n : ℕ). Refused n c.of-call.result) (sym (cond-false (leb (check_count (steps_on B es)) (length c.args.buffer.now)) 0 71 (lt-leb _ _ short))) c.of-call.ensures.refused-without-text;
-      operations-and-misses = refl;
-      outcome-bytes = refl;
-      state-after = refl;
+      asks_room = subst (λ (n : ℕ). Refused n c.of-call.result) (sym (cond-false (leb (check_count (steps_on B es)) (length c.args.buffer.now)) 0 71 (lt-leb _ _ short))) c.of-call.ensures.refused_without_text;
+      operations_and_misses = refl;
+      outcome_bytes = refl;
+      state_after = refl;
       build_stays = refl;
-      mlt1-tells-as-a-run = λ e. tt;
-      laws-of-outcomes = outcome_laws;
+      mlt1_tells_as_a_run = λ e. tt;
+      laws_of_outcomes = outcome_laws;
     }
 
 pub returns : goal.returns
@@ -33,17 +33,17 @@ returns g c =
     let x = c.args.array.now in
     let B = m.build x in
     let es = elements_of c.args.test.now in
-    let count = counted_on B es _ _ _ c.words.ensures.word_count c.width.ensures.bits-of-word (m.formed x).few_bits c.outcome-count-outcomes.ensures.reads-and-compares in
+    let count = counted_on B es _ _ _ c.words.ensures.word_count c.width.ensures.bits_of_word (m.formed x).few_bits c.outcome-count-outcomes.ensures.reads_and_compares in
     let fits : check_count (steps_on B es) ≤ length c.args.buffer.now = omega (arith, c.if-buffer-outcomes.false, count) in
     let told = c.do-all-log.ensures in
     let answer : ◌≡◌ {A = TrialResult} (record { operations = c.do-all-log.result.operations; misses = c.do-all-log.result.misses }) (trial_of B es (m.state x)) =
-    ap₂ (λ (a b : ℕ). record { operations = a; misses = b }) told.operations-and-misses.operations told.operations-and-misses.misses in
+    ap₂ (λ (a b : ℕ). record { operations = a; misses = b }) told.operations_and_misses.operations told.operations_and_misses.misses in
     record {
-      asks-room = cond-true (leb (check_count (steps_on B es)) (length c.args.buffer.now)) 0 71 (le-leb _ _ fits);
-      operations-and-misses = answer;
-      outcome-bytes = told.outcome-bytes;
-      state-after = told.state-after;
+      asks_room = cond-true (leb (check_count (steps_on B es)) (length c.args.buffer.now)) 0 71 (le-leb _ _ fits);
+      operations_and_misses = answer;
+      outcome_bytes = told.outcome_bytes;
+      state_after = told.state_after;
       build_stays = told.build_stays;
-      mlt1-tells-as-a-run = λ e. tells B (m.state x) es _ (m.formed x) answer e;
-      laws-of-outcomes = outcome_laws;
+      mlt1_tells_as_a_run = λ e. tells B (m.state x) es _ (m.formed x) answer e;
+      laws_of_outcomes = outcome_laws;
     }

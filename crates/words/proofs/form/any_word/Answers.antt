@@ -17,5 +17,5 @@ returns-in-Word c =
 
 pub returns-in-default : goal.returns-in-default
 returns-in-default c =
-    rw c.not-wanted.ensures.not-wanted-there
+    rw c.not-wanted.ensures.not_wanted_there
     record { reading = pinned (name_next_one _ _) (on c.in-ok-token.ensures.reading.reads (nameless c.in-default.not-Word)); lies = tt }

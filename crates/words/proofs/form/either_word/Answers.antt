@@ -13,15 +13,15 @@ returns-in-err-token c =
 
 pub returns-then-spells : goal.returns-then-spells
 returns-then-spells c =
-    let x = on c.in-ok-token.ensures.reading.reads (first (c.spells.ensures.word-told.0 c.if-spells.true)) in
+    let x = on c.in-ok-token.ensures.reading.reads (first (c.spells.ensures.word_told.0 c.if-spells.true)) in
     record { reading = pinned (either_next_one _ _ _ _) x; ahead = either_next_ahead _ _ _ _ _ x }
 
 pub returns-then-spells-2 : goal.returns-then-spells-2
 returns-then-spells-2 c =
-    let x = on c.in-ok-token.ensures.reading.reads (second (λ s. clash _ (c.spells.ensures.word-told.1 s) c.if-spells.false) (c.spells-else-spells.ensures.word-told.0 c.if-spells-2.true)) in
+    let x = on c.in-ok-token.ensures.reading.reads (second (λ s. clash _ (c.spells.ensures.word_told.1 s) c.if-spells.false) (c.spells-else-spells.ensures.word_told.0 c.if-spells-2.true)) in
     record { reading = pinned (either_next_one _ _ _ _) x; ahead = either_next_ahead _ _ _ _ _ x }
 
 pub returns-else-spells-2 : goal.returns-else-spells-2
 returns-else-spells-2 c =
-    rw c.not-wanted.ensures.not-wanted-there
-    record { reading = pinned (either_next_one _ _ _ _) (on c.in-ok-token.ensures.reading.reads (neither (λ s. clash _ (c.spells.ensures.word-told.1 s) c.if-spells.false) (λ s. clash _ (c.spells-else-spells.ensures.word-told.1 s) c.if-spells-2.false))); ahead = tt }
+    rw c.not-wanted.ensures.not_wanted_there
+    record { reading = pinned (either_next_one _ _ _ _) (on c.in-ok-token.ensures.reading.reads (neither (λ s. clash _ (c.spells.ensures.word_told.1 s) c.if-spells.false) (λ s. clash _ (c.spells-else-spells.ensures.word_told.1 s) c.if-spells-2.false))); ahead = tt }

@@ -4,4 +4,4 @@ use Rattle.words.proofs.form.spells.Goals as goal
 
 pub returns-in-Word : goal.returns-in-Word
 returns-in-Word c =
-    record { word-told = Decides-like _ (λ e. record { kind = c.in-Word.is; is = e }) (λ s. s.is) (slice_eq-Decides Decides-eqb _ _ _ c.eq.ensures) }
+    record { word_told = Decides-like _ (λ e. record { kind = c.in-Word.is; is = e }) (λ s. s.is) (slice_eq-Decides Decides-eqb _ _ _ c.eq.ensures) }

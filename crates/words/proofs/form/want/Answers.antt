@@ -17,5 +17,5 @@ returns-then-eq c =
 
 pub returns-else-eq : goal.returns-else-eq
 returns-else-eq c =
-    rw c.not-wanted.ensures.not-wanted-there
+    rw c.not-wanted.ensures.not_wanted_there
     record { reading = pinned (next_one _ _ _) (on c.in-ok-token.ensures.reading.reads (unwanted c.if-eq.ensures)); ahead = tt }

@@ -13,10 +13,10 @@ returns-in-err-token c =
 
 pub returns-then-spells : goal.returns-then-spells
 returns-then-spells c =
-    let x = on c.in-ok-token.ensures.reading.reads (spelt (c.spells.ensures.word-told.0 c.if-spells.true)) in
+    let x = on c.in-ok-token.ensures.reading.reads (spelt (c.spells.ensures.word_told.0 c.if-spells.true)) in
     record { reading = pinned (word_next_one _ _ _) x; ahead = word_next_ahead _ _ _ _ x }
 
 pub returns-else-spells : goal.returns-else-spells
 returns-else-spells c =
-    rw c.not-wanted.ensures.not-wanted-there
-    record { reading = pinned (word_next_one _ _ _) (on c.in-ok-token.ensures.reading.reads (misspelt (λ s. clash _ (c.spells.ensures.word-told.1 s) c.if-spells.false))); ahead = tt }
+    rw c.not-wanted.ensures.not_wanted_there
+    record { reading = pinned (word_next_one _ _ _) (on c.in-ok-token.ensures.reading.reads (misspelt (λ s. clash _ (c.spells.ensures.word_told.1 s) c.if-spells.false))); ahead = tt }

@@ -52,5 +52,5 @@ loop-token-preserved t c =
 
 pub returns-in-default : goal.returns-in-default
 returns-in-default t c =
-    rw c.not-wanted.ensures.not-wanted-there
+    rw c.not-wanted.ensures.not_wanted_there
     record { reading = pinned (remark_one _ _ _) (c.loop-token.invariant.1 _ (other c.in-ok-token.ensures.reading.reads c.in-default.not-Close c.in-default.not-Word c.in-default.not-Open)); ahead = tt }

@@ -7,18 +7,18 @@ use Rattle.words.proofs.token.next_token.Goals.{in-40, in-41, in-10}
 
 pub returns-then-from-text : goal.returns-then-from-text
 returns-then-from-text c =
-    let x : Lexed c.args.text.now c.args.at _ = record { place = _; spaces = c.skip-spaces-from.ensures.spaces-skipped; stands = ends c.if-from-text.true } in
+    let x : Lexed c.args.text.now c.args.at _ = record { place = _; spaces = c.skip-spaces-from.ensures.spaces_skipped; stands = ends c.if-from-text.true } in
     record { reading = pinned (lexed_one _ _) x; lies = lexed_lies _ _ _ x }
 
 pub returns-in-default : goal.returns-in-default
 returns-in-default c =
-    let s = c.skip-spaces-from.ensures.spaces-skipped in
-    let x : Lexed c.args.text.now c.args.at _ = record { place = _; spaces = s; stands = others (omega (arith, s.within)) (λ e. omega arith) (λ e. omega arith) (λ e. omega arith) c.word-at.ensures.word-there } in
+    let s = c.skip-spaces-from.ensures.spaces_skipped in
+    let x : Lexed c.args.text.now c.args.at _ = record { place = _; spaces = s; stands = others (omega (arith, s.within)) (λ e. omega arith) (λ e. omega arith) (λ e. omega arith) c.word-at.ensures.word_there } in
     record { reading = pinned (lexed_one _ _) x; lies = lexed_lies _ _ _ x }
 
 pub returns : goal.returns
 returns c =
-    let s = c.skip-spaces-from.ensures.spaces-skipped in
+    let s = c.skip-spaces-from.ensures.spaces_skipped in
     let h : c.skip-spaces-from.result < length c.args.text.now = omega (arith, s.within) in
     let at = c.skip-spaces-from.result in
     let t : TokenAt c.args.text.now at _ =

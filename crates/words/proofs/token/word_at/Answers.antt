@@ -7,9 +7,9 @@ pub returns-then-not-is-letter-or-digit : goal.returns-then-not-is-letter-or-dig
 returns-then-not-is-letter-or-digit c = record { word_there = stray (search rules) }
 
 pub returns-then-to-from-gt-LONGEST-WORD : goal.returns-then-to-from-gt-LONGEST-WORD
-returns-then-to-from-gt-LONGEST-WORD c = record { word_there = too_long _ c.run-end-to.ensures.letters-passed (omega arith) }
+returns-then-to-from-gt-LONGEST-WORD c = record { word_there = too_long _ c.run-end-to.ensures.letters_passed (omega arith) }
 
 pub returns : goal.returns
 returns c =
-    let r = c.run-end-to.ensures.letters-passed in
-    record { word_there = word _ (runs_some _ _ _ r c.requires.byte-there (sym c.if-not-is-letter-or-digit.ensures.letter-or-digit)) r (omega arith) }
+    let r = c.run-end-to.ensures.letters_passed in
+    record { word_there = word _ (runs_some _ _ _ r c.requires.byte_there (sym c.if-not-is-letter-or-digit.ensures.letter_or_digit)) r (omega arith) }

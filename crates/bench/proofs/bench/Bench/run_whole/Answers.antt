@@ -18,19 +18,19 @@ returns-in-Ok-close g c =
     let formed = m.formed x0.array in
     let done = all_done B S x0.books (m.build x1.array) (m.build x2.array) (m.state x1.array) (m.state x2.array) x1.books x2.books
     c.in-Ok.ticket.number c.operation-count-operations.result c.step.result _ _ formed
-    (ap m.build begun.array-stays) (ap m.state begun.array-stays) begun.started-or-unchanged begun.ticket-with-the-number-of-starts
-    (c.operation-count-operations.ensures.eleven-a-word-two-a-column ∙ ap₂ (λ (n w : ℕ). 11 * n + 2 * w) c.words.ensures.word_count c.width.ensures.bits-of-word)
-    went.asks-in-order went.most-or-all-left went.next-steps-done went.other-books-stay went.build_stays in
+    (ap m.build begun.array_stays) (ap m.state begun.array_stays) begun.started_or_unchanged begun.ticket_with_the_number_of_starts
+    (c.operation-count-operations.ensures.eleven_a_word_two_a_column ∙ ap₂ (λ (n w : ℕ). 11 * n + 2 * w) c.words.ensures.word_count c.width.ensures.bits_of_word)
+    went.asks_in_order went.most_or_all_left went.next_steps_done went.other_books_stay went.build_stays in
     let ended = c.in-Ok-close.ensures in
-    let finding = ended.finding-of-the-misses ∙ ap found done.missed in
+    let finding = ended.finding_of_the_misses ∙ ap found done.missed in
     let tells = found_sound B _ (separates B S formed.some_bits formed.steady) in
     record {
-      asks-in-order = begun.asks-in-order;
-      finding-of-the-misses = finding;
-      sound-exactly-without-a-defect = (λ e. tells.0 (sym (ap finding_number finding) ∙ e), λ s. ap finding_number finding ∙ tells.1 s);
-      one-run-more = ended.closed-or-unchanged ∙ done.closes ∙ ap (λ f. ran_whole f x0.books) (sym ended.finding-of-the-misses);
-      state-after-the-schedule = ap m.state ended.array-stays ∙ done.array;
-      build_stays = ap m.build ended.array-stays ∙ done.stays;
+      asks_in_order = begun.asks_in_order;
+      finding_of_the_misses = finding;
+      sound_exactly_without_a_defect = (λ e. tells.0 (sym (ap finding_number finding) ∙ e), λ s. ap finding_number finding ∙ tells.1 s);
+      one_run_more = ended.closed_or_unchanged ∙ done.closes ∙ ap (λ f. ran_whole f x0.books) (sym ended.finding_of_the_misses);
+      state_after_the_schedule = ap m.state ended.array_stays ∙ done.array;
+      build_stays = ap m.build ended.array_stays ∙ done.stays;
     }
 
 -- the close is never refused
@@ -47,7 +47,7 @@ returns-in-Err-close g c =
     let formed = m.formed x0.array in
     let done = all_done B S x0.books (m.build x1.array) (m.build x2.array) (m.state x1.array) (m.state x2.array) x1.books x2.books
     c.in-Ok.ticket.number c.operation-count-operations.result c.step.result _ _ formed
-    (ap m.build begun.array-stays) (ap m.state begun.array-stays) begun.started-or-unchanged begun.ticket-with-the-number-of-starts
-    (c.operation-count-operations.ensures.eleven-a-word-two-a-column ∙ ap₂ (λ (n w : ℕ). 11 * n + 2 * w) c.words.ensures.word_count c.width.ensures.bits-of-word)
-    went.asks-in-order went.most-or-all-left went.next-steps-done went.other-books-stay went.build_stays in
-    absurd (refused_not_0 _ _ c.in-Err-close.ensures.asks-in-order done.asked)
+    (ap m.build begun.array_stays) (ap m.state begun.array_stays) begun.started_or_unchanged begun.ticket_with_the_number_of_starts
+    (c.operation-count-operations.ensures.eleven_a_word_two_a_column ∙ ap₂ (λ (n w : ℕ). 11 * n + 2 * w) c.words.ensures.word_count c.width.ensures.bits_of_word)
+    went.asks_in_order went.most_or_all_left went.next_steps_done went.other_books_stay went.build_stays in
+    absurd (refused_not_0 _ _ c.in-Err-close.ensures.asks_in_order done.asked)

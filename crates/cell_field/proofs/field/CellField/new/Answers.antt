@@ -7,8 +7,8 @@ returns g c =
     let f = g.C.CellKind.meaning in
     let xs = c.args.cells.now in
     record {
-      asks-size-then-cells = search rules;
-      cells-as-lent = refl;
-      made-of-the-cells = made_build f c.args.words c.args.width xs (search rules);
-      marks-clear = made_state f c.args.words c.args.width xs (search rules);
+      asks_size_then_cells = search rules;
+      cells_as_lent = refl;
+      made_of_the_cells = made_build f c.args.words c.args.width xs (search rules);
+      marks_clear = made_state f c.args.words c.args.width xs (search rules);
     }

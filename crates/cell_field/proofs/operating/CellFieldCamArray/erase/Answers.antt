@@ -20,17 +20,17 @@ returns g c =
     let counted = c.one-more-self.ensures.next in
     elim c.if-word-used-words.branch [
       | then-word-used-words w ↦
-          let inside : a < used_words s.words s.width l = omega (arith, c.used-words.ensures.words-used, w.if-word-used-words.true) in
+          let inside : a < used_words s.words s.width l = omega (arith, c.used-words.ensures.words_used, w.if-word-used-words.true) in
           let room : a < length s.marks = omega (arith, few_words s.words s.width l) in
           record {
-            state-after-erase = ap₂ State-of w.self-is (counted ∙ ap (λ (r : CellField g.row.C.Denot). one_more r.tally) w.self-is)
+            state_after_erase = ap₂ State-of w.self-is (counted ∙ ap (λ (r : CellField g.row.C.Denot). one_more r.tally) w.self-is)
                 ∙ erase-state f s.words s.width a l inside s.tally xs s.marks w.erased.result refl room w.erased.ensures.clear;
-            build_stays = ap Build-of w.self-is ∙ erase-build f s.words s.width a l inside s.tally xs s.marks w.erased.result refl room w.erased.ensures.stuck-stays;
+            build_stays = ap Build-of w.self-is ∙ erase-build f s.words s.width a l inside s.tally xs s.marks w.erased.result refl room w.erased.ensures.stuck_stays;
           }
       | else-word-used-words w ↦
-          let past : used_words s.words s.width l ≤ a = omega (arith, c.used-words.ensures.words-used, w.if-word-used-words.false) in
+          let past : used_words s.words s.width l ≤ a = omega (arith, c.used-words.ensures.words_used, w.if-word-used-words.false) in
           record {
-            state-after-erase = ap₂ State-of w.self-is (counted ∙ ap (λ (r : CellField g.row.C.Denot). one_more r.tally) w.self-is) ∙ count_state (map f xs) s.words s.width s.marks s.tally
+            state_after_erase = ap₂ State-of w.self-is (counted ∙ ap (λ (r : CellField g.row.C.Denot). one_more r.tally) w.self-is) ∙ count_state (map f xs) s.words s.width s.marks s.tally
                 ∙ sym (erased_outside (field_build (map f xs) s.words s.width s.marks) _ a (outside f s.words s.width xs a past));
             build_stays = ap Build-of w.self-is;
           }

@@ -10,7 +10,7 @@ read-lent-row-requires g c =
     let s = c.args.self.now in
     let l = length s.cells.now in
     let a = c.args.word.number in
-    let inside : a < used_words s.words s.width l = omega (arith, c.used-words.ensures.words-used) in
+    let inside : a < used_words s.words s.width l = omega (arith, c.used-words.ensures.words_used) in
     record { few_bits = few_bits s.words s.width l a inside; inside = row_inside s.words s.width l a inside }
 
 pub returns-then-word-used-words : goal.returns-then-word-used-words
@@ -21,12 +21,12 @@ returns-then-word-used-words g c =
     let l = length xs in
     let a = c.args.word.number in
     let n : ℕ = used_words s.words s.width l in
-    let inside : a < n = omega (arith, c.used-words.ensures.words-used) in
+    let inside : a < n = omega (arith, c.used-words.ensures.words_used) in
     let stay = c.read-lent-row.ensures.cells_stay in
     record {
-      held-bits = c.read-lent-row.ensures.held-bits ∙ read_inside n s.width (map f xs) s.marks s.tally a inside
+      held_bits = c.read-lent-row.ensures.held_bits ∙ read_inside n s.width (map f xs) s.marks s.tally a inside
           ∙ ap₂ (λ B S. read_word B a S) (sym (build-inside f s.words s.width a l inside xs s.marks refl)) (sym (state-inside f s.words s.width a l inside xs s.marks s.tally refl));
-      only-counted = ap₂ (λ ys t. field_state (map f ys) s.words s.width s.marks t) stay c.one-more-self.ensures.next ∙ count_state (map f xs) s.words s.width s.marks s.tally;
+      only_counted = ap₂ (λ ys t. field_state (map f ys) s.words s.width s.marks t) stay c.one-more-self.ensures.next ∙ count_state (map f xs) s.words s.width s.marks s.tally;
       build_stays = ap (λ ys. field_build (map f ys) s.words s.width s.marks) stay;
     }
 
@@ -37,9 +37,9 @@ returns-else-word-used-words g c =
     let xs = s.cells.now in
     let l = length xs in
     let a = c.args.word.number in
-    let past : used_words s.words s.width l ≤ a = omega (arith, c.used-words.ensures.words-used) in
+    let past : used_words s.words s.width l ≤ a = omega (arith, c.used-words.ensures.words_used) in
     record {
-      held-bits = sym (ap (λ B. read_word B a (field_state (map f xs) s.words s.width s.marks s.tally)) (build_of f s.words s.width xs s.marks) ∙ cond-false (ltb a (used_words s.words s.width l)) _ _ (le-ltb a _ past));
-      only-counted = ap (field_state (map f xs) s.words s.width s.marks) c.one-more-self.ensures.next ∙ count_state (map f xs) s.words s.width s.marks s.tally;
+      held_bits = sym (ap (λ B. read_word B a (field_state (map f xs) s.words s.width s.marks s.tally)) (build_of f s.words s.width xs s.marks) ∙ cond-false (ltb a (used_words s.words s.width l)) _ _ (le-ltb a _ past));
+      only_counted = ap (field_state (map f xs) s.words s.width s.marks) c.one-more-self.ensures.next ∙ count_state (map f xs) s.words s.width s.marks s.tally;
       build_stays = refl;
     }

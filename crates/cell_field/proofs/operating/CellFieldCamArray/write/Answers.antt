@@ -12,7 +12,7 @@ write-row-requires g c =
     let s = c.args.self.now in
     let l = length s.cells.now in
     let a = c.args.word.number in
-    let inside : a < used_words s.words s.width l = omega (arith, c.used-words.ensures.words-used) in
+    let inside : a < used_words s.words s.width l = omega (arith, c.used-words.ensures.words_used) in
     record { inside = row_inside s.words s.width l a inside }
 
 pub returns : goal.returns
@@ -30,21 +30,21 @@ returns g c =
     let counted = c.one-more-self.ensures.next in
     elim c.if-word-used-words.branch [
       | then-word-used-words w ↦
-          let inside : a < used_words s.words s.width l = omega (arith, c.used-words.ensures.words-used, w.if-word-used-words.true) in
+          let inside : a < used_words s.words s.width l = omega (arith, c.used-words.ensures.words_used, w.if-word-used-words.true) in
           let room : a < length s.marks = omega (arith, few_words s.words s.width l) in
           let ys = w.write-row.new.cells in
           let long : length ys ≡ l = search rules in
           let done = w.written.ensures in
           record {
-            state-after-write = ap₂ State-of w.self-is (counted ∙ ap (λ (r : CellField g.row.C.Denot). one_more r.tally) w.self-is)
-                ∙ write-state f s.words s.width a l inside p m s.tally xs ys s.marks w.written.result refl long w.write-row.ensures.cells-of-the-row-written room done.set-unless-stuck done.stuck-stays;
+            state_after_write = ap₂ State-of w.self-is (counted ∙ ap (λ (r : CellField g.row.C.Denot). one_more r.tally) w.self-is)
+                ∙ write-state f s.words s.width a l inside p m s.tally xs ys s.marks w.written.result refl long w.write-row.ensures.cells_of_the_row_written room done.set_unless_stuck done.stuck_stays;
             build_stays = ap Build-of w.self-is
-                ∙ write-build f s.words s.width a l inside p m s.tally xs ys s.marks w.written.result refl long w.write-row.ensures.cells-of-the-row-written room done.set-unless-stuck done.stuck-stays;
+                ∙ write-build f s.words s.width a l inside p m s.tally xs ys s.marks w.written.result refl long w.write-row.ensures.cells_of_the_row_written room done.set_unless_stuck done.stuck_stays;
           }
       | else-word-used-words w ↦
-          let past : used_words s.words s.width l ≤ a = omega (arith, c.used-words.ensures.words-used, w.if-word-used-words.false) in
+          let past : used_words s.words s.width l ≤ a = omega (arith, c.used-words.ensures.words_used, w.if-word-used-words.false) in
           record {
-            state-after-write = ap₂ State-of w.self-is (counted ∙ ap (λ (r : CellField g.row.C.Denot). one_more r.tally) w.self-is) ∙ count_state (map f xs) s.words s.width s.marks s.tally
+            state_after_write = ap₂ State-of w.self-is (counted ∙ ap (λ (r : CellField g.row.C.Denot). one_more r.tally) w.self-is) ∙ count_state (map f xs) s.words s.width s.marks s.tally
                 ∙ sym (written_outside (field_build (map f xs) s.words s.width s.marks) _ a p m (outside f s.words s.width xs a past));
             build_stays = ap Build-of w.self-is;
           }

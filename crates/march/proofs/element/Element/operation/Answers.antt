@@ -10,13 +10,13 @@ use Rattle.march.proofs.element.Element.operation.Goals as goal
 pub returns-in-Some : goal.returns-in-Some
 returns-in-Some c =
     record {
-      operation-at-place = nth_found Compare (listed c.in-Columns.comparisons) c.args.at _ _ c.in-Some.ensures.item-at-place refl
+      operation_at_place = nth_found Compare (listed c.in-Columns.comparisons) c.args.at _ _ c.in-Some.ensures.item_at_place refl
           ∙ ap (λ e. slice_get (operations_of (meant e)) c.args.at) (sym c.in-Columns.is);
     }
 
 pub returns-in-None : goal.returns-in-None
 returns-in-None c =
     record {
-      operation-at-place = nth_found Compare (listed c.in-Columns.comparisons) c.args.at _ _ c.in-None.ensures.item-at-place refl
+      operation_at_place = nth_found Compare (listed c.in-Columns.comparisons) c.args.at _ _ c.in-None.ensures.item_at_place refl
           ∙ ap (λ e. slice_get (operations_of (meant e)) c.args.at) (sym c.in-Columns.is);
     }

@@ -9,6 +9,6 @@ use Rattle.march.proofs.element.Element.operation_count.Goals as goal
 pub returns-in-Columns : goal.returns-in-Columns
 returns-in-Columns c =
     record {
-      how-many-operations = c.len-in-Columns.ensures.item_count ∙ sym (length-map (listed c.in-Columns.comparisons) Compare)
+      how_many_operations = c.len-in-Columns.ensures.item_count ∙ sym (length-map (listed c.in-Columns.comparisons) Compare)
           ∙ ap (λ e. length (operations_of (meant e))) (sym c.in-Columns.is);
     }

@@ -11,7 +11,7 @@ returns-then-at-lt8 g c =
     let d = c.index-self-at.result in
     let eight : length xs ≡ 8 = search rules in
     let l : i < length (take n xs) = omega (arith, length-take n xs) in
-    record { item-at-place = sym (slice_get-get_or (take n xs) i d l ∙ ap Some (get_or-take n xs i d (omega arith))) }
+    record { item_at_place = sym (slice_get-get_or (take n xs) i d l ∙ ap Some (get_or-take n xs i d (omega arith))) }
 
 pub returns-else-at-self : goal.returns-else-at-self
 returns-else-at-self g c =
@@ -19,4 +19,4 @@ returns-else-at-self g c =
     let n : ℕ = min c.args.self.now.count 8 in
     let l : length (take n xs) ≤ c.args.at =
     ⊎_elim (λ b. omega (arith, length-take n xs, b.1)) (λ b. omega (arith, length-take n xs, b)) c.else-at-self.either in
-    record { item-at-place = sym (slice_get_past (take n xs) c.args.at l) }
+    record { item_at_place = sym (slice_get_past (take n xs) c.args.at l) }

@@ -5,4 +5,4 @@ use Rattle.march.proofs.few.Few.len.Goals as goal
 pub overflow-cast-result : goal.overflow-cast-result
 overflow-cast-result g c =
     let f = c.args.self.now in
-    omega (arith, ap length c.as-slice.ensures.all-items, length-take (min f.count 8) f.items)
+    omega (arith, ap length c.as-slice.ensures.all_items, length-take (min f.count 8) f.items)

@@ -15,7 +15,7 @@ returns-then-len-lt8 g c =
     let now : min f.count 8 ≡ n = omega arith in
     let then : min (n + 1) 8 ≡ n + 1 = omega arith in
     record {
-      one-more-at-the-end = λ _. ap (λ (k : ℕ). take k (set xs n c.args.item)) then ∙ take_more_set xs n c.args.item (omega arith)
+      one_more_at_the_end = λ _. ap (λ (k : ℕ). take k (set xs n c.args.item)) then ∙ take_more_set xs n c.args.item (omega arith)
           ∙ sym (ap (λ (k : ℕ). take k xs ++ (c.args.item ∷ [])) now);
-      full-list-stays = λ full. absurd (omega arith);
+      full_list_stays = λ full. absurd (omega arith);
     }

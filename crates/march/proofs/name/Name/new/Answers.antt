@@ -15,11 +15,11 @@ few xs e = leb-true (length xs) 16 (and_parts (leb (length xs) 16) (every is_let
 pub invariant-of-result : goal.invariant-of-result
 invariant-of-result c =
     let text = c.args.text.now in
-    let name : is_name text ≡ true = sym c.is-name.ensures.allowed-name ∙ c.if-not-is-name.false in
+    let name : is_name text ≡ true = sym c.is-name.ensures.allowed_name ∙ c.if-not-is-name.false in
     (few text name, (ap is_name (front text c.copy-from-slice.new.self _ c.copy-from-slice.ensures.after) ∙ name, tt))
 
 pub returns : goal.returns
 returns c =
     let text = c.args.text.now in
-    let name : is_name text ≡ true = sym c.is-name.ensures.allowed-name ∙ c.if-not-is-name.false in
-    record { asks-letters-and-digits = cond-true (is_name text) 0 63 name; that-name = front text _ _ c.copy-from-slice.ensures.after }
+    let name : is_name text ≡ true = sym c.is-name.ensures.allowed_name ∙ c.if-not-is-name.false in
+    record { asks_letters_and_digits = cond-true (is_name text) 0 63 name; that_name = front text _ _ c.copy-from-slice.ensures.after }

@@ -12,12 +12,12 @@ returns c =
     let n : ℕ = c.element-count-count.result in
     let room : n < 16 = c.if-count-ge16.false in
     let sixteen : length es ≡ 16 = search rules in
-    let many = c.element-count-count.ensures.how-many-elements in
+    let many = c.element-count-count.ensures.how_many_elements in
     let counted : n ≡ min t.count 16 = many ∙ elements_counted t sixteen in
     let then : min (n + 1) 16 ≡ n + 1 = omega arith in
     record {
-      asks-room = cond-true _ 0 31 (lt-ltb (length (elements_of t)) 16 (omega arith));
-      one-more-at-the-end = last_set es (min (n + 1) 16) n c.opened.result then (omega arith)
-          ∙ (λ i. map meant (take (counted i) es) ++ (c.opened.ensures.no-operation i ∷ []));
-      name-stays = refl;
+      asks_room = cond-true _ 0 31 (lt-ltb (length (elements_of t)) 16 (omega arith));
+      one_more_at_the_end = last_set es (min (n + 1) 16) n c.opened.result then (omega arith)
+          ∙ (λ i. map meant (take (counted i) es) ++ (c.opened.ensures.no_operation i ∷ []));
+      name_stays = refl;
     }

@@ -8,16 +8,16 @@ use Rattle.march.proofs.test.Test.add_operation.Goals as goal
 
 pub returns-then-count-eq0 : goal.returns-then-count-eq0
 returns-then-count-eq0 c =
-    let none : length (elements_of c.args.self.now) ≡ 0 = sym c.element-count-count.ensures.how-many-elements ∙ c.if-count-eq0.true in
+    let none : length (elements_of c.args.self.now) ≡ 0 = sym c.element-count-count.ensures.how_many_elements ∙ c.if-count-eq0.true in
     record {
-      asks-in-order = subst (λ es. Refused (first_no (operation_questions es c.args.operation)) c.of-call.result) (sym (nil_from_length _ none)) c.of-call.ensures.refused-without-text;
-      last-element-longer = refl;
-      name-stays = refl;
+      asks_in_order = subst (λ es. Refused (first_no (operation_questions es c.args.operation)) c.of-call.result) (sym (nil_from_length _ none)) c.of-call.ensures.refused_without_text;
+      last_element_longer = refl;
+      name_stays = refl;
     }
 
 pub bounds-self-count : goal.bounds-self-count
 bounds-self-count c =
-    omega (arith, c.element-count-count.ensures.how-many-elements, elements_few c.args.self.now, c.if-count-eq0.false)
+    omega (arith, c.element-count-count.ensures.how_many_elements, elements_few c.args.self.now, c.if-count-eq0.false)
 
 pub returns : goal.returns
 returns c =
@@ -25,8 +25,8 @@ returns c =
     let n : ℕ = c.element-count-count.result in
     let sixteen : length t.elements ≡ 16 = search rules in
     let some : n ≡ 0 → ⊥ = c.if-count-eq0.false in
-    let counted : n ≡ min t.count 16 = c.element-count-count.ensures.how-many-elements ∙ elements_counted t sixteen in
+    let counted : n ≡ min t.count 16 = c.element-count-count.ensures.how_many_elements ∙ elements_counted t sixteen in
     let last : min t.count 16 ≡ (n - 1) + 1 = omega arith in
     let inside : n - 1 < length t.elements = omega (arith, elements_few t) in
-    let both = added t (n - 1) c.args.operation c.add.result _ _ last inside c.add.ensures.asks-in-order c.add.ensures.one-more-at-the-end in
-    record { asks-in-order = both.0; last-element-longer = both.1; name-stays = refl }
+    let both = added t (n - 1) c.args.operation c.add.result _ _ last inside c.add.ensures.asks_in_order c.add.ensures.one_more_at_the_end in
+    record { asks_in_order = both.0; last_element_longer = both.1; name_stays = refl }

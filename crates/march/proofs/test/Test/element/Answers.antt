@@ -11,11 +11,11 @@ returns-then-at-elements c =
     let es = c.elements-elements.result.now in
     let i = c.args.at in
     let l : i < length es = c.if-at-elements.true in
-    record { element-at-place = ap (option_map meant) (sym (slice_get-get_or es i _ l)) ∙ sym (nth_map meant es i) ∙ ap (λ xs. slice_get xs i) c.elements-elements.ensures.all-elements }
+    record { element_at_place = ap (option_map meant) (sym (slice_get-get_or es i _ l)) ∙ sym (nth_map meant es i) ∙ ap (λ xs. slice_get xs i) c.elements-elements.ensures.all_elements }
 
 pub returns-else-at-elements : goal.returns-else-at-elements
 returns-else-at-elements c =
     let es = c.elements-elements.result.now in
     let i = c.args.at in
     let l : length es ≤ i = c.if-at-elements.false in
-    record { element-at-place = ap (option_map meant) (sym (slice_get_past es i l)) ∙ sym (nth_map meant es i) ∙ ap (λ xs. slice_get xs i) c.elements-elements.ensures.all-elements }
+    record { element_at_place = ap (option_map meant) (sym (slice_get_past es i l)) ∙ sym (nth_map meant es i) ∙ ap (λ xs. slice_get xs i) c.elements-elements.ensures.all_elements }

@@ -6,7 +6,7 @@ use Rattle.march.proofs.test.Test.element_count.Goals as goal
 
 pub overflow-cast-result : goal.overflow-cast-result
 overflow-cast-result c =
-    omega (arith, ap length c.elements.ensures.all-elements, length-map c.elements.result.now meant, elements_few c.args.self.now)
+    omega (arith, ap length c.elements.ensures.all_elements, length-map c.elements.result.now meant, elements_few c.args.self.now)
 
 pub returns : goal.returns
-returns c = record { how-many-elements = sym (length-map c.elements.result.now meant) ∙ ap length c.elements.ensures.all-elements }
+returns c = record { how_many_elements = sym (length-map c.elements.result.now meant) ∙ ap length c.elements.ensures.all_elements }

@@ -17,8 +17,8 @@ pub returns-then-elements-eq0 : goal.returns-then-elements-eq0
 returns-then-elements-eq0 c =
     let t = c.args.self.now in
     let es = c.elements-elements.result.now in
-    let none : length (elements_of t) < 1 = omega (arith, ap length c.elements-elements.ensures.all-elements, length-map es meant) in
-    record { decides-whole = sym (and_left (leb 1 (length (elements_of t))) _ (lt-leb 1 (length (elements_of t)) none)) }
+    let none : length (elements_of t) < 1 = omega (arith, ap length c.elements-elements.ensures.all_elements, length-map es meant) in
+    record { decides_whole = sym (and_left (leb 1 (length (elements_of t))) _ (lt-leb 1 (length (elements_of t)) none)) }
 
 pub returns-then-operation-count-eq0 : goal.returns-then-operation-count-eq0
 unfolding filled
@@ -27,12 +27,12 @@ returns-then-operation-count-eq0 c =
     let es = c.elements-elements.result.now in
     let i = c.loop-element.element-index in
     let e = get_or es i bare in
-    let none : length (operations_of (meant e)) < 1 = omega (arith, c.operation-count.ensures.how-many-operations) in
+    let none : length (operations_of (meant e)) < 1 = omega (arith, c.operation-count.ensures.how_many_operations) in
     let here : is_filled (meant e) ≡ false = and_left (leb 1 (length (operations_of (meant e)))) _ (lt-leb 1 _ none) in
     let bad : every is_filled (elements_of t) ≡ false =
-    ap (every is_filled) (sym c.elements-elements.ensures.all-elements) ∙ sym c.loop-element.invariant ∙ at_drop_more filled es i bare (omega arith)
+    ap (every is_filled) (sym c.elements-elements.ensures.all_elements) ∙ sym c.loop-element.invariant ∙ at_drop_more filled es i bare (omega arith)
     ∙ and_left _ _ here in
-    record { decides-whole = sym (and_right (leb 1 (length (elements_of t))) _ (and_right (leb (length (elements_of t)) 16) _ bad)) }
+    record { decides_whole = sym (and_right (leb 1 (length (elements_of t))) _ (and_right (leb (length (elements_of t)) 16) _ bad)) }
 
 pub loop-element-preserved : goal.loop-element-preserved
 unfolding filled
@@ -42,7 +42,7 @@ loop-element-preserved c =
     let e = get_or es i bare in
     let n : ℕ = length (operations_of (meant e)) in
     let here : is_filled (meant e) ≡ true =
-    and_from (leb 1 n) (leb n 8) (le-leb 1 n (omega (arith, c.operation-count.ensures.how-many-operations, c.if-operation-count-eq0.false))) (le-leb n 8 (operations_few e)) in
+    and_from (leb 1 n) (leb n 8) (le-leb 1 n (omega (arith, c.operation-count.ensures.how_many_operations, c.if-operation-count-eq0.false))) (le-leb n 8 (operations_few e)) in
     sym (at_drop_more filled es i bare (omega arith) ∙ ap (λ b. b && filled (drop (i + 1) es)) here)
     ∙ c.loop-element.invariant
 
@@ -53,8 +53,8 @@ returns c =
     let es = c.elements-elements.result.now in
     let i = c.loop-element.element-index in
     let n : ℕ = length (elements_of t) in
-    let long = ap length c.elements-elements.ensures.all-elements in
+    let long = ap length c.elements-elements.ensures.all_elements in
     let some : 1 ≤ n = omega (arith, length-map es meant, c.if-elements-eq0.false) in
     let all : every is_filled (elements_of t) ≡ true =
-    ap (every is_filled) (sym c.elements-elements.ensures.all-elements) ∙ sym c.loop-element.invariant ∙ at_drop_all filled es i (omega arith) in
-    record { decides-whole = sym (and_from _ _ (le-leb 1 n some) (and_from _ _ (le-leb n 16 (elements_few t)) all)) }
+    ap (every is_filled) (sym c.elements-elements.ensures.all_elements) ∙ sym c.loop-element.invariant ∙ at_drop_all filled es i (omega arith) in
+    record { decides_whole = sym (and_from _ _ (le-leb 1 n some) (and_from _ _ (le-leb n 16 (elements_few t)) all)) }

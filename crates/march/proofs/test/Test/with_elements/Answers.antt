@@ -11,7 +11,7 @@ returns c =
     let counted : length es ≡ min (length es) 16 = omega arith in
     let copied = c.copy-from-slice.ensures.after in
     record {
-      asks-room = cond-true _ 0 31 (le-leb (length es) 16 few);
-      these-elements = ap (map meant) (take_at c.copy-from-slice.new.self _ (min (length es) 16) (ap length copied ∙ counted) ∙ copied);
-      its-name = refl;
+      asks_room = cond-true _ 0 31 (le-leb (length es) 16 few);
+      these_elements = ap (map meant) (take_at c.copy-from-slice.new.self _ (min (length es) 16) (ap length copied ∙ counted) ∙ copied);
+      its_name = refl;
     }

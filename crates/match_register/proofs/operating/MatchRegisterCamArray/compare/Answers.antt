@@ -14,7 +14,7 @@ returns c =
     let m = c.args.mask in
     let fits : m < 2 ^ 64 = search rules in
     record {
-      some-word-matches = ap (λ t. (r.mark && not r.stuck) && t) (none_set 8 _ 255 _ (omega arith) refl (λ j l. agreeing r.held p m j fits l)) ∙ or_none _;
-      only-counted = search rules;
+      some_word_matches = ap (λ t. (r.mark && not r.stuck) && t) (none_set 8 _ 255 _ (omega arith) refl (λ j l. agreeing r.held p m j fits l)) ∙ or_none _;
+      only_counted = search rules;
       build_stays = refl;
     }

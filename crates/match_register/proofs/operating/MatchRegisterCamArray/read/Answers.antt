@@ -10,8 +10,8 @@ returns-then-word-eq0 c =
     let a = c.args.word.number in
     let z : a ≡ 0 = c.if-word-eq0.true in
     record {
-      held-bits = value_low 8 r.held 255 (held r.held a) (omega arith) refl (λ j l. counts r.held a j z l)
+      held_bits = value_low 8 r.held 255 (held r.held a) (omega arith) refl (λ j l. counts r.held a j z l)
           ∙ sym (cond-true (ltb a 1) _ 0 (lt-ltb a 1 (omega arith)));
-      only-counted = search rules;
+      only_counted = search rules;
       build_stays = refl;
     }

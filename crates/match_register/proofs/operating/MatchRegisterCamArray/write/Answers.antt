@@ -24,7 +24,7 @@ returns c =
           let z : a ≡ 0 = w.if-word-eq0.true in
           let e = w.self-is in
           record {
-            state-after-write = ap₂ (λ r t. register_state (with_tally r t)) e (counted ∙ ap (λ (r : MatchRegister). one_more r.tally) e)
+            state_after_write = ap₂ (λ r t. register_state (with_tally r t)) e (counted ∙ ap (λ (r : MatchRegister). one_more r.tally) e)
                 ∙ λ d. record { held = λ k j. writing r.held p m a k j fits z d; mark = λ k. marking r.mark r.stuck a k z d; tally = tally_more r.tally d };
             build_stays = ap register_build e;
           }
@@ -32,7 +32,7 @@ returns c =
           let e = w.self-is in
           let past : 1 ≤ a = omega (arith, w.if-word-eq0.false) in
           record {
-            state-after-write = ap₂ (λ r t. register_state (with_tally r t)) e (counted ∙ ap (λ (r : MatchRegister). one_more r.tally) e)
+            state_after_write = ap₂ (λ r t. register_state (with_tally r t)) e (counted ∙ ap (λ (r : MatchRegister). one_more r.tally) e)
                 ∙ (λ d. record { held = (register_state r).held; mark = (register_state r).mark; tally = tally_more r.tally d })
                 ∙ sym (written_outside (register_build r) (register_state r) a p m past);
             build_stays = ap register_build e;

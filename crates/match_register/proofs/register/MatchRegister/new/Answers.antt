@@ -7,6 +7,6 @@ use Rattle.match_register.proofs.register.MatchRegister.new.Goals as goal
 pub returns : goal.returns
 returns c =
     record {
-      with-this-mark = refl;
-      nothing-done = λ d. record { held = λ k j. and_right (eqb k 0 && ltb j 8) (bit 0 j) (bit_zero j) d; mark = λ k. and_right (eqb k 0) false refl d; tally = 0 };
+      with_this_mark = refl;
+      nothing_done = λ d. record { held = λ k j. and_right (eqb k 0 && ltb j 8) (bit 0 j) (bit_zero j) d; mark = λ k. and_right (eqb k 0) false refl d; tally = 0 };
     }

@@ -9,17 +9,17 @@ pub loop-done-preserved : goal.loop-done-preserved
 loop-done-preserved g c =
     let told = c.if-not-advance.ensures in (
       told.build_stays ∙ c.loop-done.invariant.0,
-      went_then _ _ c.loop-done.done 1 _ _ _ _ _ _ c.loop-done.invariant.0 c.loop-done.invariant.1 told.next-step-done,
+      went_then _ _ c.loop-done.done 1 _ _ _ _ _ _ c.loop-done.invariant.0 c.loop-done.invariant.1 told.next_step_done,
     )
 
 pub returns-then-not-advance : goal.returns-then-not-advance
 returns-then-not-advance g c =
     let told = c.if-not-advance.ensures in
-    let done = went_stop _ _ c.loop-done.done _ _ _ _ _ _ c.loop-done.invariant.0 c.loop-done.invariant.1 told.next-step-done in
+    let done = went_stop _ _ c.loop-done.done _ _ _ _ _ _ c.loop-done.invariant.0 c.loop-done.invariant.1 told.next_step_done in
     record {
-      most-or-all-left = went_all _ _ c.loop-done.done c.args.most _ _ _ _ c.loop-done.invariant.0 c.loop-done.invariant.1 (omega arith) told.unless-at-end;
-      tally-rises-by-answer = went_tally _ _ _ _ _ _ done (g.C.CamArray.formed c.args.array.now).tally_within;
-      next-steps-done = done;
+      most_or_all_left = went_all _ _ c.loop-done.done c.args.most _ _ _ _ c.loop-done.invariant.0 c.loop-done.invariant.1 (omega arith) told.unless_at_end;
+      tally_rises_by_answer = went_tally _ _ _ _ _ _ done (g.C.CamArray.formed c.args.array.now).tally_within;
+      next_steps_done = done;
       build_stays = told.build_stays ∙ c.loop-done.invariant.0;
     }
 
@@ -27,8 +27,8 @@ pub returns : goal.returns
 returns g c =
     let done = went_at _ c.loop-done.done c.args.most _ _ _ _ (omega arith) c.loop-done.invariant.1 in
     record {
-      most-or-all-left = omega (arith, done.within);
-      tally-rises-by-answer = went_tally _ _ _ _ _ _ done (g.C.CamArray.formed c.args.array.now).tally_within;
-      next-steps-done = done;
+      most_or_all_left = omega (arith, done.within);
+      tally_rises_by_answer = went_tally _ _ _ _ _ _ done (g.C.CamArray.formed c.args.array.now).tally_within;
+      next_steps_done = done;
       build_stays = c.loop-done.invariant.0;
     }

@@ -13,16 +13,16 @@ returns-in-Some-step c =
     let w = min c.args.width 64 in
     let s = c.loop-element.self in
     let r = c.in-Some.element in
-    let at = c.in-Some.ensures.element-at-place in
-    let found = c.in-Some-step.ensures.step-of-visit in
+    let at = c.in-Some.ensures.element_at_place in
+    let found = c.in-Some-step.ensures.step_of_visit in
     record {
-      what-is-left-stays = c.loop-element.invariant.0;
-      first-that-is-left = (
+      what_is_left_stays = c.loop-element.invariant.0;
+      first_that_is_left = (
         left_step n w mlt1 s.element (meant r) s.visit s.operation at _ found,
         omega (arith, operation_few n w (meant r) s.visit s.operation _ found, per_visit_few r),
       );
-      place-stays = c.loop-element.invariant.1;
-      misses-stay = c.loop-element.invariant.2;
+      place_stays = c.loop-element.invariant.1;
+      misses_stay = c.loop-element.invariant.2;
     }
 
 pub loop-element-preserved : goal.loop-element-preserved
@@ -31,19 +31,19 @@ loop-element-preserved c =
     let w = min c.args.width 64 in
     let s = c.loop-element.self in
     let r = c.in-Some.element in
-    let at = c.in-Some.ensures.element-at-place in
-    let none = c.in-default-step.ensures.step-of-visit in
+    let at = c.in-Some.ensures.element_at_place in
+    let none = c.in-default-step.ensures.step_of_visit in
     elim c.if-self-visits.branch [
       | then-self-visits y ↦ (
         ap (λ t. left_of n w t.element t.visit 0) y.self-is
-            ∙ sym (left_visit n w mlt1 s.element (meant r) s.visit s.operation at none (omega (arith, y.if-self-visits.true, c.visits.ensures.visit-count)))
+            ∙ sym (left_visit n w mlt1 s.element (meant r) s.visit s.operation at none (omega (arith, y.if-self-visits.true, c.visits.ensures.visit_count)))
             ∙ c.loop-element.invariant.0,
         ap (λ t. t.place) y.self-is ∙ c.loop-element.invariant.1,
         ap (λ t. t.misses) y.self-is ∙ c.loop-element.invariant.2,
       )
       | else-self-visits y ↦ (
         ap (λ t. left_of n w t.element t.visit 0) y.self-is
-            ∙ sym (left_element n w mlt1 s.element (meant r) s.visit s.operation at (omega (arith, y.if-self-visits.false, c.visits.ensures.visit-count)))
+            ∙ sym (left_element n w mlt1 s.element (meant r) s.visit s.operation at (omega (arith, y.if-self-visits.false, c.visits.ensures.visit_count)))
             ∙ c.loop-element.invariant.0,
         ap (λ t. t.place) y.self-is ∙ c.loop-element.invariant.1,
         ap (λ t. t.misses) y.self-is ∙ c.loop-element.invariant.2,
@@ -54,8 +54,8 @@ pub returns : goal.returns
 returns c =
     let s = c.loop-element.self in
     record {
-      what-is-left-stays = c.loop-element.invariant.0;
-      first-that-is-left = left_end c.args.words (min c.args.width 64) mlt1 s.element s.visit s.operation c.in-default.ensures.element-at-place;
-      place-stays = c.loop-element.invariant.1;
-      misses-stay = c.loop-element.invariant.2;
+      what_is_left_stays = c.loop-element.invariant.0;
+      first_that_is_left = left_end c.args.words (min c.args.width 64) mlt1 s.element s.visit s.operation c.in-default.ensures.element_at_place;
+      place_stays = c.loop-element.invariant.1;
+      misses_stay = c.loop-element.invariant.2;
     }

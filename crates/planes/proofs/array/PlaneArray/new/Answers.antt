@@ -13,10 +13,10 @@ returns c =
     let fits : n ≤ length (vec_items v) = omega (arith, v.ok.0) in
     let ends : vec_items (with_items v c.blank-first.new.records) ≡ blanked n (vec_items v) =
     with_items_is v c.blank-first.new.records (omega arith)
-    ∙ c.blank-first.ensures.first-blank-others-stay ∙ ap (blanked n) c.as-mut-slice.ensures.value in
+    ∙ c.blank-first.ensures.first_blank_others_stay ∙ ap (blanked n) c.as-mut-slice.ensures.value in
     record {
-      asks-size-then-records = search rules;
-      made-flawless = ap (build_from n w) ends ∙ build_blanked n w (vec_items v) fits;
-      made-cleared = ap (λ rs. state_from n w rs 0) ends ∙ state_blanked n w (vec_items v) fits;
-      later-records-stay = ends;
+      asks_size_then_records = search rules;
+      made_flawless = ap (build_from n w) ends ∙ build_blanked n w (vec_items v) fits;
+      made_cleared = ap (λ rs. state_from n w rs 0) ends ∙ state_blanked n w (vec_items v) fits;
+      later_records_stay = ends;
     }

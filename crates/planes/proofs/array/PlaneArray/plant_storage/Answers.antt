@@ -16,17 +16,17 @@ returns-in-Good c =
     let a = c.args.word.number in
     let j = c.args.column.number in
     let fits : n ≤ length rs = omega (arith, s.records.ok.0) in
-    let cell : has_cell (build_of s) a j ≡ true = sym c.has-cell.ensures.inside-array ∙ c.if-not-has-cell.false in
+    let cell : has_cell (build_of s) a j ≡ true = sym c.has-cell.ensures.inside_array ∙ c.if-not-has-cell.false in
     let both = and_parts (ltb a n) (ltb j s.width) cell in
     let inside : a < n = ltb-true a n both.0 in
     let read = c.index-mut.ensures.value in
     let done = c.plant-storage.ensures in
     record {
-      asks-place-then-storage = both_yes _ _ 42 43 cell
-          (ap (λ y. is_good (storage_of y j)) (sym (record_read n rs a _ fits inside c.index.ensures)) ∙ ap is_good (sym c.in-Good.ensures.storage-of-column));
-      only-this-defect-planted = build_with_storage n rs a _ _ fits inside read s.width j (storage_with c.args.defect)
-          done.storage-of-column done.wrong-sets-stay done.stuck-stays;
-      only-held-bit-settled = state_settled n rs a _ _ fits inside read s.width s.tally j (storage_with c.args.defect)
-          (λ i. done.held-bits s.width i (ltb-true j s.width both.1) s.few_bits) done.mark-stays;
-      later-records-stay = record { words = refl; later = drop-set-lt n rs a _ inside };
+      asks_place_then_storage = both_yes _ _ 42 43 cell
+          (ap (λ y. is_good (storage_of y j)) (sym (record_read n rs a _ fits inside c.index.ensures)) ∙ ap is_good (sym c.in-Good.ensures.storage_of_column));
+      only_this_defect_planted = build_with_storage n rs a _ _ fits inside read s.width j (storage_with c.args.defect)
+          done.storage_of_column done.wrong_sets_stay done.stuck_stays;
+      only_held_bit_settled = state_settled n rs a _ _ fits inside read s.width s.tally j (storage_with c.args.defect)
+          (λ i. done.held_bits s.width i (ltb-true j s.width both.1) s.few_bits) done.mark_stays;
+      later_records_stay = record { words = refl; later = drop-set-lt n rs a _ inside };
     }

@@ -16,9 +16,9 @@ returns c =
     let read = c.index-mut.ensures.value in
     let done = c.stick-mark.ensures in
     record {
-      asks-place-then-mark = both_yes _ _ 42 43 (lt-ltb a n inside)
+      asks_place_then_mark = both_yes _ _ 42 43 (lt-ltb a n inside)
           (ap (λ y. not y.stuck) (sym (record_read n rs a _ fits inside c.index.ensures)) ∙ ap not c.if-index.false);
-      only-this-mark-planted = build_with_stuck_mark n rs a _ _ fits inside read s.width done.stuck done.storage-stays done.wrong-sets-stay;
-      only-this-mark-cleared = state_unmarked n rs a _ _ fits inside read s.width s.tally done.mark-clear (done.held-bits-stay s.width);
-      later-records-stay = record { words = refl; later = drop-set-lt n rs a _ inside };
+      only_this_mark_planted = build_with_stuck_mark n rs a _ _ fits inside read s.width done.stuck done.storage_stays done.wrong_sets_stay;
+      only_this_mark_cleared = state_unmarked n rs a _ _ fits inside read s.width s.tally done.mark_clear (done.held_bits_stay s.width);
+      later_records_stay = record { words = refl; later = drop-set-lt n rs a _ inside };
     }

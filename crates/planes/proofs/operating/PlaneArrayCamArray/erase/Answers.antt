@@ -20,14 +20,14 @@ returns c =
           let read = y.index-mut.ensures.value in
           let e = ap (λ s. s.1.0) y.self-is in
           record {
-            state-after-erase = ap₂ (λ v t. state_from n w (vec_items v) t) e counted
+            state_after_erase = ap₂ (λ v t. state_from n w (vec_items v) t) e counted
                 ∙ erase_inside n rs a _ _ fits inside read w s.tally (λ j. refl) refl;
             build_stays = ap (λ v. build_from n w (vec_items v)) e ∙ build_same n rs a _ _ fits inside read w refl;
           }
       | else-word-self y ↦
           let e = ap (λ s. s.1.0) y.self-is in
           record {
-            state-after-erase = ap₂ (λ v t. state_from n w (vec_items v) t) e counted ∙ sym (erased_outside (build_from n w rs) (state_from n w rs s.tally) a y.if-word-self.false);
+            state_after_erase = ap₂ (λ v t. state_from n w (vec_items v) t) e counted ∙ sym (erased_outside (build_from n w rs) (state_from n w rs s.tally) a y.if-word-self.false);
             build_stays = ap (λ v. build_from n w (vec_items v)) e;
           }
     ]

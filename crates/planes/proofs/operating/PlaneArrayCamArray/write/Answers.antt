@@ -23,14 +23,14 @@ returns c =
           let done = y.write.ensures in
           let e = ap (λ s. s.1.0) y.self-is in
           record {
-            state-after-write = ap₂ (λ v t. state_from n w (vec_items v) t) e counted
-                ∙ write_inside n rs a _ _ fits inside read w s.tally p m (λ j. done.cells w j s.few_bits) done.mark-set-unless-stuck;
-            build_stays = ap (λ v. build_from n w (vec_items v)) e ∙ build_same n rs a _ _ fits inside read w done.defects-stay;
+            state_after_write = ap₂ (λ v t. state_from n w (vec_items v) t) e counted
+                ∙ write_inside n rs a _ _ fits inside read w s.tally p m (λ j. done.cells w j s.few_bits) done.mark_set_unless_stuck;
+            build_stays = ap (λ v. build_from n w (vec_items v)) e ∙ build_same n rs a _ _ fits inside read w done.defects_stay;
           }
       | else-word-self y ↦
           let e = ap (λ s. s.1.0) y.self-is in
           record {
-            state-after-write = ap₂ (λ v t. state_from n w (vec_items v) t) e counted ∙ sym (written_outside (build_from n w rs) (state_from n w rs s.tally) a p m y.if-word-self.false);
+            state_after_write = ap₂ (λ v t. state_from n w (vec_items v) t) e counted ∙ sym (written_outside (build_from n w rs) (state_from n w rs s.tally) a p m y.if-word-self.false);
             build_stays = ap (λ v. build_from n w (vec_items v)) e;
           }
     ]

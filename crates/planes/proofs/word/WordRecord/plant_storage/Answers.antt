@@ -18,12 +18,12 @@ returns-in-Sa1 c =
     let j : ℕ = c.args.column.number in
     let in_a_word : j < 64 = c.requires.in_a_word in
     record {
-      storage-of-column = λ i. split (eqb i j) (λ e. let good = well r j i c.requires.stores-well e in simp (bits, e) (grind arith)) (λ e. simp (bits, e) (grind arith));
-      held-bits = λ w i l h. split (eqb i j) (λ e. let good = well r j i c.requires.stores-well e in simp (bits, e) (grind (arith, nat_tests))) (λ e. simp (bits, e) (grind arith));
-      stored-bit = let same = eq-eqb j j refl in simp (bits, same) (grind arith);
-      wrong-sets-stay = refl;
+      storage_of_column = λ i. split (eqb i j) (λ e. let good = well r j i c.requires.stores_well e in simp (bits, e) (grind arith)) (λ e. simp (bits, e) (grind arith));
+      held_bits = λ w i l h. split (eqb i j) (λ e. let good = well r j i c.requires.stores_well e in simp (bits, e) (grind (arith, nat_tests))) (λ e. simp (bits, e) (grind arith));
+      stored_bit = let same = eq-eqb j j refl in simp (bits, same) (grind arith);
+      wrong_sets_stay = refl;
       mark_stays = refl;
-      stuck-stays = refl;
+      stuck_stays = refl;
     }
 
 pub returns-in-NoRise : goal.returns-in-NoRise
@@ -32,12 +32,12 @@ returns-in-NoRise c =
     let j : ℕ = c.args.column.number in
     let in_a_word : j < 64 = c.requires.in_a_word in
     record {
-      storage-of-column = λ i. split (eqb i j) (λ e. let good = well r j i c.requires.stores-well e in simp (bits, e) (grind arith)) (λ e. simp (bits, e) (grind arith));
-      held-bits = λ w i l h. split (eqb i j) (λ e. simp e (grind arith)) (λ e. simp e (grind arith));
-      stored-bit = grind arith;
-      wrong-sets-stay = refl;
+      storage_of_column = λ i. split (eqb i j) (λ e. let good = well r j i c.requires.stores_well e in simp (bits, e) (grind arith)) (λ e. simp (bits, e) (grind arith));
+      held_bits = λ w i l h. split (eqb i j) (λ e. simp e (grind arith)) (λ e. simp e (grind arith));
+      stored_bit = grind arith;
+      wrong_sets_stay = refl;
       mark_stays = refl;
-      stuck-stays = refl;
+      stuck_stays = refl;
     }
 
 pub returns-in-NoFall : goal.returns-in-NoFall
@@ -46,12 +46,12 @@ returns-in-NoFall c =
     let j : ℕ = c.args.column.number in
     let in_a_word : j < 64 = c.requires.in_a_word in
     record {
-      storage-of-column = λ i. split (eqb i j) (λ e. let good = well r j i c.requires.stores-well e in simp (bits, e) (grind arith)) (λ e. simp (bits, e) (grind arith));
-      held-bits = λ w i l h. split (eqb i j) (λ e. simp e (grind arith)) (λ e. simp e (grind arith));
-      stored-bit = grind arith;
-      wrong-sets-stay = refl;
+      storage_of_column = λ i. split (eqb i j) (λ e. let good = well r j i c.requires.stores_well e in simp (bits, e) (grind arith)) (λ e. simp (bits, e) (grind arith));
+      held_bits = λ w i l h. split (eqb i j) (λ e. simp e (grind arith)) (λ e. simp e (grind arith));
+      stored_bit = grind arith;
+      wrong_sets_stay = refl;
       mark_stays = refl;
-      stuck-stays = refl;
+      stuck_stays = refl;
     }
 
 pub returns-in-Sa0 : goal.returns-in-Sa0
@@ -61,12 +61,12 @@ returns-in-Sa0 c =
     let in_a_word : j < 64 = c.requires.in_a_word in
     let bit-fits : (1 * 2 ^ j) % 18446744073709551616 < 2 ^ 64 = omega arith in
     record {
-      storage-of-column = λ i. split (eqb i j) (λ e. let good = well r j i c.requires.stores-well e in simp (bits, e) (grind arith)) (λ e. simp (bits, e) (grind arith));
-      held-bits = λ w i l h. split (ltb i w)
+      storage_of_column = λ i. split (eqb i j) (λ e. let good = well r j i c.requires.stores_well e in simp (bits, e) (grind arith)) (λ e. simp (bits, e) (grind arith));
+      held_bits = λ w i l h. split (ltb i w)
           (λ t. let i64 : i < 64 = omega (arith, ltb-true i w t) in split (eqb i j) (λ e. simp (bits, e, t) (grind arith)) (λ e. simp (bits, e, t) (grind arith)))
           (λ t. simp t (grind arith));
-      stored-bit = let same = eq-eqb j j refl in simp (bits, same) (grind arith);
-      wrong-sets-stay = refl;
+      stored_bit = let same = eq-eqb j j refl in simp (bits, same) (grind arith);
+      wrong_sets_stay = refl;
       mark_stays = refl;
-      stuck-stays = refl;
+      stuck_stays = refl;
     }

@@ -7,7 +7,7 @@ use Rattle.planes.proofs.word.WordRecord.reversed.Goals as goal
 pub returns-then-self-eq0 : goal.returns-then-self-eq0
 returns-then-self-eq0 c =
     record {
-      columns-with-wrong-pair = λ j l.
+      columns_with_wrong_pair = λ j l.
           let none = simp bits at (ap (λ (n : ℕ). bit n j) c.if-self-eq0.true) in
           let zero = bit_zero j in
           grind arith;
@@ -17,4 +17,4 @@ pub returns : goal.returns
 returns c =
     let held_fits : c.args.held < 2 ^ 64 = search rules in
     let pattern-fits : c.args.pattern < 2 ^ 64 = search rules in
-    record { columns-with-wrong-pair = λ j l. simp bits (grind arith) }
+    record { columns_with_wrong_pair = λ j l. simp bits (grind arith) }

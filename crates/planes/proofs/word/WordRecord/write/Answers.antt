@@ -13,6 +13,6 @@ returns c =
       cells = λ w j h. split (ltb j w)
           (λ e. let j64 : j < 64 = omega (arith, ltb-true j w e) in simp (bits, e) (grind arith))
           (λ e. simp e);
-      mark-set-unless-stuck = grind arith;
-      defects-stay = refl;
+      mark_set_unless_stuck = grind arith;
+      defects_stay = refl;
     }

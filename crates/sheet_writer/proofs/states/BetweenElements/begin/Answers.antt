@@ -17,12 +17,12 @@ pub returns-then-buffer-name : goal.returns-then-buffer-name
 returns-then-buffer-name c =
     let name = c.args.name.now in
     let b = c.args.buffer.now in
-    let same = c.as-bytes-name.ensures.letters ∙ c.in-ok-name.ensures.that-name in
-    let named : is_name name ≡ true = ap is_name (sym c.in-ok-name.ensures.that-name) ∙ c.in-ok-name.name.allowed in
+    let same = c.as-bytes-name.ensures.letters ∙ c.in-ok-name.ensures.that_name in
+    let named : is_name name ≡ true = ap is_name (sym c.in-ok-name.ensures.that_name) ∙ c.in-ok-name.name.allowed in
     let past : fits 0 (beginning name) b ≡ false = lt-leb (0 + length (beginning name)) (length b) (omega (arith, long name, ap length same, c.if-buffer-name.true)) in
     record {
-      asks-in-order = subst (λ (n : ℕ). Refused n c.of-call.result) (sym (cond-true (is_name name) _ 63 named ∙ cond-false (fits 0 (beginning name) b) 0 61 past)) c.of-call.ensures.refused-without-text;
-      sheet-begun = refl;
+      asks_in_order = subst (λ (n : ℕ). Refused n c.of-call.result) (sym (cond-true (is_name name) _ 63 named ∙ cond-false (fits 0 (beginning name) b) 0 61 past)) c.of-call.ensures.refused_without_text;
+      sheet_begun = refl;
     }
 
 pub returns : goal.returns
@@ -30,8 +30,8 @@ returns c =
     let name = c.args.name.now in
     let b = c.args.buffer.now in
     let n = c.as-bytes-name.result.now in
-    let same : n ≡ name = c.as-bytes-name.ensures.letters ∙ c.in-ok-name.ensures.that-name in
-    let named : is_name name ≡ true = ap is_name (sym c.in-ok-name.ensures.that-name) ∙ c.in-ok-name.name.allowed in
+    let same : n ≡ name = c.as-bytes-name.ensures.letters ∙ c.in-ok-name.ensures.that_name in
+    let named : is_name name ≡ true = ap is_name (sym c.in-ok-name.ensures.that_name) ∙ c.in-ok-name.name.allowed in
     let room : 7 + length n ≤ length b = c.if-buffer-name.false in
     let x = codes "(test " in
     let y = codes "\n" in
@@ -42,6 +42,6 @@ returns c =
     let whole : (x ++ n) ++ y ≡ beginning name = append_assoc x n y ∙ ap beginning same in
     let place : c.put-text-at-3.result ≡ length (beginning name) = omega (arith, third.ends, ap length whole) in
     record {
-      asks-in-order = both_yes (is_name name) (fits 0 (beginning name) b) 63 61 named (le-leb (0 + length (beginning name)) (length b) (omega (arith, long name, ap length same)));
-      sheet-begun = (ap (λ (k : ℕ). between k 0) place, third.text ∙ ap (over b 0) whole);
+      asks_in_order = both_yes (is_name name) (fits 0 (beginning name) b) 63 61 named (le-leb (0 + length (beginning name)) (length b) (omega (arith, long name, ap length same)));
+      sheet_begun = (ap (λ (k : ℕ). between k 0) place, third.text ∙ ap (over b 0) whole);
     }
