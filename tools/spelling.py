@@ -78,7 +78,9 @@ def swap(text, names, fields):
     def one(match):
         word = match.group(1)
         before = text[match.start() - 1] if match.start() else " "
-        if before == "." and word not in fields:
+        # behind a module's name stands a definition, behind a value one of its fields
+        of_module = re.search(r"[A-Z][A-Za-z0-9]*\.$", text[: match.start()][-40:])
+        if before == "." and word not in fields and not of_module:
             return word
         return names[word]
 

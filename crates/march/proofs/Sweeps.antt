@@ -17,10 +17,10 @@ pub first_passes : (B : Build) (xs ys : List Step) (S : State) → misses B (xs 
 first_passes B = R.first_passes (stepped B) (missed B)
 
 pub then_passes : (B : Build) (xs ys : List Step) (S : State) → misses B (xs ++ ys) S ≡ 0 → misses B ys (after B xs S) ≡ 0
-then_passes B = R.then-passes (stepped B) (missed B)
+then_passes B = R.then_passes (stepped B) (missed B)
 
 pub both_pass : (B : Build) (xs ys : List Step) (S : State) → misses B xs S ≡ 0 → misses B ys (after B xs S) ≡ 0 → misses B (xs ++ ys) S ≡ 0
-both_pass B = R.both-pass (stepped B) (missed B)
+both_pass B = R.both_pass (stepped B) (missed B)
 
 module _ (B : Build) (N : ℕ) (f : ℕ → List Step) where
   pub kept : (Q : State → Type 0) (n : ℕ) → n ≤ N → ((k : ℕ) (S : State) → k < n → Q S → Q (after B (f k) S))
@@ -51,7 +51,7 @@ after_tally B ss S h =
 
 -- a step misses at most once
 pub misses_within : (B : Build) (ss : List Step) (S : State) → misses B ss S ≤ length ss
-misses_within B = R.misses-few (stepped B) (missed B) (λ s S. one (missing B s S))
+misses_within B = R.misses_few (stepped B) (missed B) (λ s S. one (missing B s S))
   where
     one : (b : Bool) → cond {A = ℕ} b 1 0 ≤ 1
     one true = omega arith

@@ -8,7 +8,7 @@ pub returns-in-Some : goal.returns-in-Some
 returns-in-Some c =
     record {
       step_of_list = nth_found (on_column (min c.args.width 64) c.args.column.number) (listed c.args.comparisons.now) c.args.at _ _
-          c.in-Some.ensures.item_at_place (ap Some c.on-column.ensures.step_on_column);
+          c.in-Some.ensures.item_at_place (ap Some c.on_column.ensures.step_on_column);
     }
 
 pub returns-in-None : goal.returns-in-None

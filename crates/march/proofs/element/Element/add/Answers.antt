@@ -14,7 +14,7 @@ returns-in-Compare c =
     let cs = listed c.in-Columns.comparisons in
     let is = c.in-Columns.is in
     let asked = c.in-Compare.is in
-    let few : length (operations_of (meant c.args.self.now)) < 8 = omega (arith, c.operation-count.ensures.how_many_operations) in
+    let few : length (operations_of (meant c.args.self.now)) < 8 = omega (arith, c.operation_count.ensures.how_many_operations) in
     let room : length cs < 8 = omega (arith, ap (λ e. length (operations_of (meant e))) is, length-map cs Compare) in
     record {
       asks_in_order = both_yes _ _ 32 33 (lt-ltb _ 8 few) (ap (λ e. allows (meant e) o) is ∙ ap is_compare asked);

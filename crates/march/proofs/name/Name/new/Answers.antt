@@ -12,14 +12,17 @@ front text copy rest e = take_at copy rest (length text) (ap length e) ∙ e
 few : (xs : List ℕ) → is_name xs ≡ true → length xs ≤ 16
 few xs e = leb-true (length xs) 16 (and_parts (leb (length xs) 16) (every is_letter_or_digit xs) (and_parts (leb 1 (length xs)) _ e).1).0
 
-pub invariant-of-result : goal.invariant-of-result
-invariant-of-result c =
+pub invariant_of-result : goal.invariant_of-result
+invariant_of-result c =
     let text = c.args.text.now in
-    let name : is_name text ≡ true = sym c.is-name.ensures.allowed_name ∙ c.if-not-is-name.false in
-    (few text name, (ap is_name (front text c.copy-from-slice.new.self _ c.copy-from-slice.ensures.after) ∙ name, tt))
+    let name : is_name text ≡ true = sym c.is_name.ensures.allowed_name ∙ c.if-not-is_name.false in
+    record {
+      sixteen_at_most = few text name;
+      allowed = ap is_name (front text c.copy_from_slice.new.self _ c.copy_from_slice.ensures.after) ∙ name;
+    }
 
 pub returns : goal.returns
 returns c =
     let text = c.args.text.now in
-    let name : is_name text ≡ true = sym c.is-name.ensures.allowed_name ∙ c.if-not-is-name.false in
-    record { asks_letters_and_digits = cond-true (is_name text) 0 63 name; that_name = front text _ _ c.copy-from-slice.ensures.after }
+    let name : is_name text ≡ true = sym c.is_name.ensures.allowed_name ∙ c.if-not-is_name.false in
+    record { asks_letters_and_digits = cond-true (is_name text) 0 63 name; that_name = front text _ _ c.copy_from_slice.ensures.after }

@@ -9,10 +9,10 @@ pub returns : goal.returns
 returns c =
     let t = c.args.self.now in
     let es = t.elements in
-    let n : ℕ = c.element-count-count.result in
+    let n : ℕ = c.element_count-count.result in
     let room : n < 16 = c.if-count-ge16.false in
     let sixteen : length es ≡ 16 = search rules in
-    let many = c.element-count-count.ensures.how_many_elements in
+    let many = c.element_count-count.ensures.how_many_elements in
     let counted : n ≡ min t.count 16 = many ∙ elements_counted t sixteen in
     let then : min (n + 1) 16 ≡ n + 1 = omega arith in
     record {

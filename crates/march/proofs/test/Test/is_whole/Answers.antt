@@ -20,14 +20,14 @@ returns-then-elements-eq0 c =
     let none : length (elements_of t) < 1 = omega (arith, ap length c.elements-elements.ensures.all_elements, length-map es meant) in
     record { decides_whole = sym (and_left (leb 1 (length (elements_of t))) _ (lt-leb 1 (length (elements_of t)) none)) }
 
-pub returns-then-operation-count-eq0 : goal.returns-then-operation-count-eq0
+pub returns-then-operation_count-eq0 : goal.returns-then-operation_count-eq0
 unfolding filled
-returns-then-operation-count-eq0 c =
+returns-then-operation_count-eq0 c =
     let t = c.args.self.now in
     let es = c.elements-elements.result.now in
     let i = c.loop-element.element-index in
     let e = get_or es i bare in
-    let none : length (operations_of (meant e)) < 1 = omega (arith, c.operation-count.ensures.how_many_operations) in
+    let none : length (operations_of (meant e)) < 1 = omega (arith, c.operation_count.ensures.how_many_operations) in
     let here : is_filled (meant e) ≡ false = and_left (leb 1 (length (operations_of (meant e)))) _ (lt-leb 1 _ none) in
     let bad : every is_filled (elements_of t) ≡ false =
     ap (every is_filled) (sym c.elements-elements.ensures.all_elements) ∙ sym c.loop-element.invariant ∙ at_drop_more filled es i bare (omega arith)
@@ -42,7 +42,7 @@ loop-element-preserved c =
     let e = get_or es i bare in
     let n : ℕ = length (operations_of (meant e)) in
     let here : is_filled (meant e) ≡ true =
-    and_from (leb 1 n) (leb n 8) (le-leb 1 n (omega (arith, c.operation-count.ensures.how_many_operations, c.if-operation-count-eq0.false))) (le-leb n 8 (operations_few e)) in
+    and_from (leb 1 n) (leb n 8) (le-leb 1 n (omega (arith, c.operation_count.ensures.how_many_operations, c.if-operation_count-eq0.false))) (le-leb n 8 (operations_few e)) in
     sym (at_drop_more filled es i bare (omega arith) ∙ ap (λ b. b && filled (drop (i + 1) es)) here)
     ∙ c.loop-element.invariant
 

@@ -9,9 +9,9 @@ returns c =
     let es = c.args.elements.now in
     let few : length es ≤ 16 = c.if-count-gt16.false in
     let counted : length es ≡ min (length es) 16 = omega arith in
-    let copied = c.copy-from-slice.ensures.after in
+    let copied = c.copy_from_slice.ensures.after in
     record {
       asks_room = cond-true _ 0 31 (le-leb (length es) 16 few);
-      these_elements = ap (map meant) (take_at c.copy-from-slice.new.self _ (min (length es) 16) (ap length copied ∙ counted) ∙ copied);
+      these_elements = ap (map meant) (take_at c.copy_from_slice.new.self _ (min (length es) 16) (ap length copied ∙ counted) ∙ copied);
       its_name = refl;
     }
