@@ -11,21 +11,21 @@ use Rattle.chart.proofs.drawing.draw.Goals as goal
 pub loop-number-init : goal.loop-number-init
 loop-number-init g c =
     drawn_none _ _ _ _ c.args.buffer.now refl refl
-    (erasing_dark _ _ _ _ c.erase-all.ensures.build_stays c.erase-all.ensures.state_after)
+    (erasing_dark _ _ _ _ c.erase_all.ensures.build_stays c.erase_all.ensures.state_after)
 
 pub loop-number-preserved : goal.loop-number-preserved
 loop-number-preserved g c =
-    drawn_more _ _ _ _ _ _ c.loop-number.number c.loop-number.start c.loop-number.marred c.width-width.result _ c.visit-word-answers.result _ _ _
+    drawn_more _ _ _ _ _ _ c.loop-number.number c.loop-number.start c.loop-number.marred c.width-width.result _ c.visit_word-answers.result _ _ _
     c.loop-number.invariant (omega (arith, c.words-number-end.ensures.word_count)) c.width-width.ensures.bits_of_word
-    c.visit-word-answers.ensures.answers_of_the_word c.visit-word-answers.ensures.state_after c.visit-word-answers.ensures.build_stays
-    c.write-row-marred.ensures.bytes_of_the_word c.write-row-marred.ensures.bytes_above_0 c.write-row-marred.ensures.few
+    c.visit_word-answers.ensures.answers_of_the_word c.visit_word-answers.ensures.state_after c.visit_word-answers.ensures.build_stays
+    c.write_row-marred.ensures.bytes_of_the_word c.write_row-marred.ensures.bytes_above_0 c.write_row-marred.ensures.few
 
 pub returns : goal.returns
 returns g c =
     let m = g.C.CamArray in
     let B = m.build c.args.array.now in
     let S = m.state c.args.array.now in
-    let all = drawn_all _ _ _ _ _ _ c.loop-number.number _ _ _ _ c.erase-all.ensures.build_stays c.erase-all.ensures.state_after
+    let all = drawn_all _ _ _ _ _ _ c.loop-number.number _ _ _ _ c.erase_all.ensures.build_stays c.erase_all.ensures.state_after
     c.loop-number.invariant (omega (arith, c.words-number-end.ensures.word_count)) in
     record {
       byte_of_each_cell = all.0;

@@ -15,21 +15,21 @@ returns g c =
     let B = m.build x in
     let S = m.state x in
     let formed = m.formed x in
-    let k = c.operation-count-operations.result in
+    let k = c.operation_count-operations.result in
     let count : k ≡ 11 * B.words + 2 * B.width =
-    c.operation-count-operations.ensures.eleven_a_word_two_a_column
+    c.operation_count-operations.ensures.eleven_a_word_two_a_column
     ∙ ap₂ (λ (n w : ℕ). 11 * n + 2 * w) c.words.ensures.word_count c.width.ensures.bits_of_word in
     let steps = length_is B.words B.width in
-    let run = went_whole B _ k _ _ _ _ c.advance-by.ensures.next_steps_done (c.start-run.ensures.whole_schedule_left B.words B.width)
-    c.start-run.ensures.no_miss_yet c.advance-by.ensures.most_or_all_left (omega (arith, count, steps)) (omega (arith, count, formed.few_words, formed.few_bits)) in
+    let run = went_whole B _ k _ _ _ _ c.advance_by.ensures.next_steps_done (c.start-run.ensures.whole_schedule_left B.words B.width)
+    c.start-run.ensures.no_miss_yet c.advance_by.ensures.most_or_all_left (omega (arith, count, steps)) (omega (arith, count, formed.few_words, formed.few_bits)) in
     let told = c.misses.ensures.misses_counted ∙ run.0 in
     let both = separates B S formed.some_bits formed.steady in
     record {
       misses_of_the_schedule = told;
       none_exactly_when_sound = (λ e. both.0 (sym told ∙ e), λ s. told ∙ both.1 s);
       state_after_the_schedule = run.1;
-      build_stays = c.advance-by.ensures.build_stays;
-      operations_tallied = c.advance-by.ensures.tally_rises_by_answer ∙ ap (λ (n : ℕ). min (S.tally + n) tally_cap) (run.2 ∙ steps);
+      build_stays = c.advance_by.ensures.build_stays;
+      operations_tallied = c.advance_by.ensures.tally_rises_by_answer ∙ ap (λ (n : ℕ). min (S.tally + n) tally_cap) (run.2 ∙ steps);
       separates_every_array = separates;
       no_word_stands_in = no_stand_in Bool;
     }

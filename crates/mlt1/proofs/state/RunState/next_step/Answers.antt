@@ -32,7 +32,7 @@ loop-element-preserved c =
     let s = c.loop-element.self in
     let r = c.in-Some.element in
     let at = c.in-Some.ensures.element_at_place in
-    let none = c.in-default-step.ensures.step_of_visit in
+    let none = c.in_default-step.ensures.step_of_visit in
     elim c.if-self-visits.branch [
       | then-self-visits y ↦ (
         ap (λ t. left_of n w t.element t.visit 0) y.self-is
@@ -55,7 +55,7 @@ returns c =
     let s = c.loop-element.self in
     record {
       what_is_left_stays = c.loop-element.invariant.0;
-      first_that_is_left = left_end c.args.words (min c.args.width 64) mlt1 s.element s.visit s.operation c.in-default.ensures.element_at_place;
+      first_that_is_left = left_end c.args.words (min c.args.width 64) mlt1 s.element s.visit s.operation c.in_default.ensures.element_at_place;
       place_stays = c.loop-element.invariant.1;
       misses_stay = c.loop-element.invariant.2;
     }

@@ -11,9 +11,9 @@ returns c =
     let n = c.args.words in
     let w = c.args.width in
     let fits : n ≤ length (vec_items v) = omega (arith, v.ok.0) in
-    let ends : vec_items (with_items v c.blank-first.new.records) ≡ blanked n (vec_items v) =
-    with_items_is v c.blank-first.new.records (omega arith)
-    ∙ c.blank-first.ensures.first_blank_others_stay ∙ ap (blanked n) c.as-mut-slice.ensures.value in
+    let ends : vec_items (with_items v c.blank_first.new.records) ≡ blanked n (vec_items v) =
+    with_items_is v c.blank_first.new.records (omega arith)
+    ∙ c.blank_first.ensures.first_blank_others_stay ∙ ap (blanked n) c.as_mut_slice.ensures.value in
     record {
       asks_size_then_records = search rules;
       made_flawless = ap (build_from n w) ends ∙ build_blanked n w (vec_items v) fits;

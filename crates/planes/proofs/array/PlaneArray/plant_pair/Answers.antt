@@ -18,14 +18,14 @@ returns c =
     let h = c.args.pair.held in
     let b = c.args.pair.comparand in
     let fits : n ≤ length rs = omega (arith, s.records.ok.0) in
-    let cell : has_cell (build_of s) a j ≡ true = sym c.has-cell.ensures.inside_array ∙ c.if-not-has-cell.false in
+    let cell : has_cell (build_of s) a j ≡ true = sym c.has_cell.ensures.inside_array ∙ c.if-not-has_cell.false in
     let both = and_parts (ltb a n) (ltb j s.width) cell in
     let inside : a < n = ltb-true a n both.0 in
-    let read = c.index-mut.ensures.value in
-    let done = c.plant-pair.ensures in
+    let read = c.index_mut.ensures.value in
+    let done = c.plant_pair.ensures in
     record {
       asks_place_then_pair = both_yes _ _ 42 43 cell
-          (ap (λ y. not (wrong_of y j h b)) (sym (record_read n rs a _ fits inside c.index.ensures)) ∙ ap not (sym c.if-is-wrong.ensures.pair_in_wrong_set));
+          (ap (λ y. not (wrong_of y j h b)) (sym (record_read n rs a _ fits inside c.index.ensures)) ∙ ap not (sym c.if-is_wrong.ensures.pair_in_wrong_set));
       only_this_pair_planted = build_with_pair n rs a _ _ fits inside read s.width j h b
           done.wrong_set_of_column done.storage_stays done.stuck_stays;
       state_stays = state_stays n rs a _ _ fits inside read s.width s.tally (done.held_bits_stay s.width) done.mark_stays;

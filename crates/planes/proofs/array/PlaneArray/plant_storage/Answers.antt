@@ -16,11 +16,11 @@ returns-in-Good c =
     let a = c.args.word.number in
     let j = c.args.column.number in
     let fits : n ≤ length rs = omega (arith, s.records.ok.0) in
-    let cell : has_cell (build_of s) a j ≡ true = sym c.has-cell.ensures.inside_array ∙ c.if-not-has-cell.false in
+    let cell : has_cell (build_of s) a j ≡ true = sym c.has_cell.ensures.inside_array ∙ c.if-not-has_cell.false in
     let both = and_parts (ltb a n) (ltb j s.width) cell in
     let inside : a < n = ltb-true a n both.0 in
-    let read = c.index-mut.ensures.value in
-    let done = c.plant-storage.ensures in
+    let read = c.index_mut.ensures.value in
+    let done = c.plant_storage.ensures in
     record {
       asks_place_then_storage = both_yes _ _ 42 43 cell
           (ap (λ y. is_good (storage_of y j)) (sym (record_read n rs a _ fits inside c.index.ensures)) ∙ ap is_good (sym c.in-Good.ensures.storage_of_column));

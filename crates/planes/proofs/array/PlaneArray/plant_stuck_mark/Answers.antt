@@ -13,8 +13,8 @@ returns c =
     let a = c.args.word.number in
     let fits : n ≤ length rs = omega (arith, s.records.ok.0) in
     let inside : a < n = omega arith in
-    let read = c.index-mut.ensures.value in
-    let done = c.stick-mark.ensures in
+    let read = c.index_mut.ensures.value in
+    let done = c.stick_mark.ensures in
     record {
       asks_place_then_mark = both_yes _ _ 42 43 (lt-ltb a n inside)
           (ap (λ y. not y.stuck) (sym (record_read n rs a _ fits inside c.index.ensures)) ∙ ap not c.if-index.false);

@@ -14,9 +14,9 @@ returns c =
     let m = c.args.mask in
     let fits : n ≤ length rs = omega (arith, s.records.ok.0) in
     record {
-      some_word_matches = c.any-matches.ensures.some_word
-          ∙ ap (λ xs. any_below (length (take (n - 0) xs)) (matches_in w p m (take (n - 0) xs))) c.as-slice.ensures.value
+      some_word_matches = c.any_matches.ensures.some_word
+          ∙ ap (λ xs. any_below (length (take (n - 0) xs)) (matches_in w p m (take (n - 0) xs))) c.as_slice.ensures.value
           ∙ some_match n (n - 0) w p m rs (omega arith) fits;
-      only_counted = ap (state_from n w rs) c.one-more-self.ensures.next;
+      only_counted = ap (state_from n w rs) c.one_more-self.ensures.next;
       build_stays = refl;
     }

@@ -13,11 +13,11 @@ returns c =
     let w = s.width in
     let a = c.args.word.number in
     let fits : n ≤ length rs = omega (arith, s.records.ok.0) in
-    let counted = c.one-more-self.ensures.next in
+    let counted = c.one_more-self.ensures.next in
     elim c.if-word-self.branch [
       | then-word-self y ↦
           let inside : a < n = y.if-word-self.true in
-          let read = y.index-mut.ensures.value in
+          let read = y.index_mut.ensures.value in
           let e = ap (λ s. s.1.0) y.self-is in
           record {
             state_after_erase = ap₂ (λ v t. state_from n w (vec_items v) t) e counted

@@ -15,11 +15,11 @@ returns c =
     let p = c.args.pattern in
     let m = c.args.mask in
     let fits : n ≤ length rs = omega (arith, s.records.ok.0) in
-    let counted = c.one-more-self.ensures.next in
+    let counted = c.one_more-self.ensures.next in
     elim c.if-word-self.branch [
       | then-word-self y ↦
           let inside : a < n = y.if-word-self.true in
-          let read = y.index-mut.ensures.value in
+          let read = y.index_mut.ensures.value in
           let done = y.write.ensures in
           let e = ap (λ s. s.1.0) y.self-is in
           record {

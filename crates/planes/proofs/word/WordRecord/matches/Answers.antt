@@ -15,6 +15,6 @@ returns c =
     let mask_fits : c.args.mask < 2 ^ 64 = search rules in
     record {
       word_matches = marked r.mark r.stuck _ _ c.if-not-self.false
-          (none_set c.args.width _ _ _ c.requires.few_bits c.low-ones.ensures.value
+          (none_set c.args.width _ _ _ c.requires.few_bits c.low_ones.ensures.value
           (λ j l. let j64 : j < 64 = omega arith in let b = lt-ltb j c.args.width l in let wrong = c.reversed.ensures.columns_with_wrong_pair j j64 in simp (wrong, bits, b) (grind arith)));
     }

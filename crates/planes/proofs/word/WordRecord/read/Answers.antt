@@ -9,6 +9,6 @@ returns c =
     let r = c.args.self.now in
     let sa0-fits : r.sa0 < 2 ^ 64 = search rules in
     record {
-      held_bits = value_low c.args.width _ _ _ c.requires.few_bits c.low-ones.ensures.value
+      held_bits = value_low c.args.width _ _ _ c.requires.few_bits c.low_ones.ensures.value
           (λ j l. let j64 : j < 64 = omega arith in let b = lt-ltb j c.args.width l in simp (bits, b));
     }

@@ -17,11 +17,11 @@ pub returns-then-buffer-name : goal.returns-then-buffer-name
 returns-then-buffer-name c =
     let name = c.args.name.now in
     let b = c.args.buffer.now in
-    let same = c.as-bytes-name.ensures.letters ∙ c.in-ok-name.ensures.that_name in
-    let named : is_name name ≡ true = ap is_name (sym c.in-ok-name.ensures.that_name) ∙ c.in-ok-name.name.allowed in
+    let same = c.as_bytes-name.ensures.letters ∙ c.in_ok-name.ensures.that_name in
+    let named : is_name name ≡ true = ap is_name (sym c.in_ok-name.ensures.that_name) ∙ c.in_ok-name.name.allowed in
     let past : fits 0 (beginning name) b ≡ false = lt-leb (0 + length (beginning name)) (length b) (omega (arith, long name, ap length same, c.if-buffer-name.true)) in
     record {
-      asks_in_order = subst (λ (n : ℕ). Refused n c.of-call.result) (sym (cond-true (is_name name) _ 63 named ∙ cond-false (fits 0 (beginning name) b) 0 61 past)) c.of-call.ensures.refused_without_text;
+      asks_in_order = subst (λ (n : ℕ). Refused n c.of_call.result) (sym (cond-true (is_name name) _ 63 named ∙ cond-false (fits 0 (beginning name) b) 0 61 past)) c.of_call.ensures.refused_without_text;
       sheet_begun = refl;
     }
 
@@ -29,18 +29,18 @@ pub returns : goal.returns
 returns c =
     let name = c.args.name.now in
     let b = c.args.buffer.now in
-    let n = c.as-bytes-name.result.now in
-    let same : n ≡ name = c.as-bytes-name.ensures.letters ∙ c.in-ok-name.ensures.that_name in
-    let named : is_name name ≡ true = ap is_name (sym c.in-ok-name.ensures.that_name) ∙ c.in-ok-name.name.allowed in
+    let n = c.as_bytes-name.result.now in
+    let same : n ≡ name = c.as_bytes-name.ensures.letters ∙ c.in_ok-name.ensures.that_name in
+    let named : is_name name ≡ true = ap is_name (sym c.in_ok-name.ensures.that_name) ∙ c.in_ok-name.name.allowed in
     let room : 7 + length n ≤ length b = c.if-buffer-name.false in
     let x = codes "(test " in
     let y = codes "\n" in
-    let first : Stands b 0 x c.put-text-at.result c.put-text-at.new.buffer =
-    record { ends = c.put-text-at.ensures.place_after; text = c.put-text-at.ensures.written_over } in
-    let second = stands_more b 0 x n _ _ _ _ first c.put-text-at-2.ensures.written_over c.put-text-at-2.ensures.place_after (omega arith) in
-    let third = stands_more b 0 (x ++ n) y _ _ _ _ second c.put-text-at-3.ensures.written_over c.put-text-at-3.ensures.place_after (omega (arith, length-append x n)) in
+    let first : Stands b 0 x c.put_text-at.result c.put_text-at.new.buffer =
+    record { ends = c.put_text-at.ensures.place_after; text = c.put_text-at.ensures.written_over } in
+    let second = stands_more b 0 x n _ _ _ _ first c.put_text-at-2.ensures.written_over c.put_text-at-2.ensures.place_after (omega arith) in
+    let third = stands_more b 0 (x ++ n) y _ _ _ _ second c.put_text-at-3.ensures.written_over c.put_text-at-3.ensures.place_after (omega (arith, length-append x n)) in
     let whole : (x ++ n) ++ y ≡ beginning name = append_assoc x n y ∙ ap beginning same in
-    let place : c.put-text-at-3.result ≡ length (beginning name) = omega (arith, third.ends, ap length whole) in
+    let place : c.put_text-at-3.result ≡ length (beginning name) = omega (arith, third.ends, ap length whole) in
     record {
       asks_in_order = both_yes (is_name name) (fits 0 (beginning name) b) 63 61 named (le-leb (0 + length (beginning name)) (length b) (omega (arith, long name, ap length same)));
       sheet_begun = (ap (λ (k : ℕ). between k 0) place, third.text ∙ ap (over b 0) whole);
