@@ -330,13 +330,13 @@ module _ {X : Type 0} (f : X → CellMeaning) (N W : ℕ) (xs : List X) (marks :
   stuck_is inside b e =
       ap (λ B. B.stuck a) (build_of f N W xs marks) ∙ ap is_stuck (mark_in (used_words N W (length xs)) 1 marks a inside) ∙ sym e
 
-  has_word : a < used_words N W (length xs) → has_word (field_build (map f xs) N W marks) a ≡ true
-  has_word inside = ap (λ B. has_word B a) (build_of f N W xs marks) ∙ lt-ltb a _ inside
+  has_word_lem : a < used_words N W (length xs) → has_word (field_build (map f xs) N W marks) a ≡ true
+  has_word_lem inside = ap (λ B. has_word B a) (build_of f N W xs marks) ∙ lt-ltb a _ inside
 
   pub asks_stuck : a < used_words N W (length xs) → (b : Bool) → b ≡ is_stuck (get_or marks a Clear)
       → first_no (ask (has_word (field_build (map f xs) N W marks) a) 42 ∷ ask (not ((field_build (map f xs) N W marks).stuck a)) 43 ∷ []) ≡ cond b 43 0
   asks_stuck inside b e =
-      cond-true (has_word (field_build (map f xs) N W marks) a) _ _ (has_word inside)
+      cond-true (has_word (field_build (map f xs) N W marks) a) _ _ (has_word_lem inside)
       ∙ ap (λ t. cond {A = ℕ} (not t) 0 43) (stuck_is inside b e) ∙ turned b
     where
       turned : (b : Bool) → cond {A = ℕ} (not b) 0 43 ≡ cond b 43 0

@@ -23,20 +23,20 @@ returns-in-Storage c =
       ahead = record { after = omega arith; inside = c.requires.head_inside };
     }
 
-pub returns-in-err-held : goal.returns-in-err-held
-returns-in-err-held c =
-    let p = err_from_is_err_and c.from-residual.result c.from-residual.ensures.1 in
-    rw (p.1, p.2) record { reading = pinned (cell_fault_one _ _ _ _ _) (after_word _ _ _ _ Wrong _ _ c.in-Wrong.is (off c.in-err-held.ensures.reading.reads)); ahead = tt }
+pub returns-in_err-held-in-Wrong : goal.returns-in_err-held-in-Wrong
+returns-in_err-held-in-Wrong c =
+    let p = err_from_is_err_and c.from_residual.result c.from_residual.ensures.1 in
+    rw (p.1, p.2) record { reading = pinned (cell_fault_one _ _ _ _ _) (after_word _ _ _ _ Wrong _ _ c.in-Wrong.is (off c.in_err-held-in-Wrong.ensures.reading.reads)); ahead = tt }
 
-pub returns-in-err-comparand : goal.returns-in-err-comparand
-returns-in-err-comparand c =
-    let p = err_from_is_err_and c.from-residual-in-err-comparand.result c.from-residual-in-err-comparand.ensures.1 in
-    rw (p.1, p.2) record { reading = pinned (cell_fault_one _ _ _ _ _) (after_word _ _ _ _ Wrong _ _ c.in-Wrong.is (on c.in-ok-held.ensures.reading.reads (off c.in-err-comparand.ensures.reading.reads))); ahead = tt }
+pub returns-in_err-comparand-in-Wrong : goal.returns-in_err-comparand-in-Wrong
+returns-in_err-comparand-in-Wrong c =
+    let p = err_from_is_err_and c.from_residual-in_err-comparand-in-Wrong.result c.from_residual-in_err-comparand-in-Wrong.ensures.1 in
+    rw (p.1, p.2) record { reading = pinned (cell_fault_one _ _ _ _ _) (after_word _ _ _ _ Wrong _ _ c.in-Wrong.is (on c.in_ok-held-in-Wrong.ensures.reading.reads (off c.in_err-comparand-in-Wrong.ensures.reading.reads))); ahead = tt }
 
-pub returns-in-ok-comparand : goal.returns-in-ok-comparand
-returns-in-ok-comparand c =
-    let h = c.in-ok-held.ensures in
-    let b = c.in-ok-comparand.ensures in
+pub returns-in_ok-comparand-in-Wrong : goal.returns-in_ok-comparand-in-Wrong
+returns-in_ok-comparand-in-Wrong c =
+    let h = c.in_ok-held-in-Wrong.ensures in
+    let b = c.in_ok-comparand-in-Wrong.ensures in
     record {
       reading = pinned (cell_fault_one _ _ _ _ _) (after_word _ _ _ _ Wrong _ _ c.in-Wrong.is (on h.reading.reads (on b.reading.reads refl)));
       ahead = record { after = omega (arith, h.ahead.after, b.ahead.after); inside = b.ahead.inside };

@@ -6,19 +6,19 @@ use Rattle.array_lines.specs.Numbers.{within, outside}
 use Rattle.array_lines.proofs.Ones.{within_one}
 use Rattle.array_lines.proofs.number.number_within.Goals as goal
 
-pub returns-in-err-number : goal.returns-in-err-number
-returns-in-err-number c =
-    let p = err_from_is_err_and c.from-residual.result c.from-residual.ensures.1 in
-    rw (p.1, p.2) record { reading = pinned (within_one _ _ _ _ _) (off c.in-err-number.ensures.reading.reads); ahead = tt }
+pub returns-in_err-number : goal.returns-in_err-number
+returns-in_err-number c =
+    let p = err_from_is_err_and c.from_residual.result c.from_residual.ensures.1 in
+    rw (p.1, p.2) record { reading = pinned (within_one _ _ _ _ _) (off c.in_err-number.ensures.reading.reads); ahead = tt }
 
 pub returns-then-number-least : goal.returns-then-number-least
 returns-then-number-least c =
     record {
-      reading = pinned (within_one _ _ _ _ _) (on c.in-ok-number.ensures.reading.reads (outside (λ p q. elim c.then-number-least.either [ inl a ↦ omega arith | inr b ↦ omega arith ])));
+      reading = pinned (within_one _ _ _ _ _) (on c.in_ok-number.ensures.reading.reads (outside (λ p q. elim c.then-number-least.either [ inl a ↦ omega arith | inr b ↦ omega arith ])));
       ahead = tt;
     }
 
 pub returns : goal.returns
 returns c =
-    let n = c.in-ok-number.ensures in
+    let n = c.in_ok-number.ensures in
     record { reading = pinned (within_one _ _ _ _ _) (on n.reading.reads (within (omega arith) (omega arith))); ahead = n.ahead }

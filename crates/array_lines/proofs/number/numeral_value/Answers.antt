@@ -28,22 +28,22 @@ digit_is b l h = grind (arith, nat_tests)
 bounds : (b : ℕ) → is_digit b ≡ true → (48 ≤ b) × (b ≤ 57)
 bounds b e = let p = and_parts (leb 48 b) (leb b 57) e in (leb-true 48 b p.0, leb-true b 57 p.1)
 
-pub returns-then-not-is-digit : goal.returns-then-not-is-digit
-returns-then-not-is-digit c =
+pub returns-then-not-is_digit : goal.returns-then-not-is_digit
+returns-then-not-is_digit c =
     let xs = c.args.word.now in
     let i = c.loop-byte.byte-index in
-    let off : is_digit (get_or xs i 0) ≡ false = sym c.if-not-is-digit.ensures.digit in
+    let off : is_digit (get_or xs i 0) ≡ false = sym c.if-not-is_digit.ensures.digit in
     let bad : every is_digit xs ≡ false = sym c.loop-byte.invariant.0 ∙ at_drop_more (every is_digit) xs i 0 (omega arith) ∙ and_left _ _ off in
     record { value_of_digits = and_right (leb (length xs) 4) _ bad }
 
-pub overflow-mul-value : goal.overflow-mul-value
-overflow-mul-value c =
+pub overflow_mul-value : goal.overflow_mul-value
+overflow_mul-value c =
     let small = so_far c.args.word.now c.loop-byte.byte-index c.loop-byte.value c.loop-byte.invariant.1 c.loop-byte.invariant.2 (omega arith) (omega arith) in
     omega arith
 
-pub overflow-add-value : goal.overflow-add-value
-overflow-add-value c =
-    let digit = bounds (get_or c.args.word.now c.loop-byte.byte-index 0) (sym c.if-not-is-digit.ensures.digit) in
+pub overflow_add-value : goal.overflow_add-value
+overflow_add-value c =
+    let digit = bounds (get_or c.args.word.now c.loop-byte.byte-index 0) (sym c.if-not-is_digit.ensures.digit) in
     let small = so_far c.args.word.now c.loop-byte.byte-index c.loop-byte.value c.loop-byte.invariant.1 c.loop-byte.invariant.2 (omega arith) (omega arith) in
     omega arith
 
@@ -53,7 +53,7 @@ loop-byte-preserved c =
     let i = c.loop-byte.byte-index in
     let b = get_or xs i 0 in
     let at : i < length xs = omega arith in
-    let digit : is_digit b ≡ true = sym c.if-not-is-digit.ensures.digit in
+    let digit : is_digit b ≡ true = sym c.if-not-is_digit.ensures.digit in
     let low : 48 ≤ b = (bounds b digit).0 in
     let high : b ≤ 57 = (bounds b digit).1 in
     let is = digit_is b low high in (

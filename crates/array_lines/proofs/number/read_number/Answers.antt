@@ -6,14 +6,14 @@ use Rattle.array_lines.specs.Numbers.{number, no_number}
 use Rattle.array_lines.proofs.Ones.{number_one}
 use Rattle.array_lines.proofs.number.read_number.Goals as goal
 
-pub returns-in-err-token : goal.returns-in-err-token
-returns-in-err-token c =
-    let p = err_from_is_err_and c.from-residual.result c.from-residual.ensures.1 in
-    rw (p.1, p.2) record { reading = pinned (number_one _ _) (off c.in-err-token.ensures.reading.reads); ahead = tt }
+pub returns-in_err-token : goal.returns-in_err-token
+returns-in_err-token c =
+    let p = err_from_is_err_and c.from_residual.result c.from_residual.ensures.1 in
+    rw (p.1, p.2) record { reading = pinned (number_one _ _) (off c.in_err-token.ensures.reading.reads); ahead = tt }
 
 pub returns-in-Some : goal.returns-in-Some
 returns-in-Some c =
-    let t = c.in-ok-token.ensures in
+    let t = c.in_ok-token.ensures in
     let v = c.in-Some.ensures.value_of_digits in
     rw v.1 record {
       reading = pinned (number_one _ _) (on t.reading.reads (number v.0));
@@ -22,5 +22,5 @@ returns-in-Some c =
 
 pub returns-in-None : goal.returns-in-None
 returns-in-None c =
-    rw c.not-wanted.ensures.not_wanted_there
-    record { reading = pinned (number_one _ _) (on c.in-ok-token.ensures.reading.reads (no_number c.in-None.ensures.value_of_digits)); ahead = tt }
+    rw c.not_wanted.ensures.not_wanted_there
+    record { reading = pinned (number_one _ _) (on c.in_ok-token.ensures.reading.reads (no_number c.in-None.ensures.value_of_digits)); ahead = tt }

@@ -14,7 +14,7 @@ use Rattle.array_text.proofs.array.read_array.Goals as goal
 
 pub returns-then-len-lt-RECORDS : goal.returns-then-len-lt-RECORDS
 returns-then-len-lt-RECORDS c =
-    let f = call_fault _ c.of-call.result BufferTooShort c.of-call.ensures.reason_given c.of-call.ensures.refused_without_text in
+    let f = call_fault _ c.of_call.result BufferTooShort c.of_call.ensures.reason_given c.of_call.ensures.refused_without_text in
     record { text_read = subst (λ f. Reading (ArrayCall (vec_len c.args.records) c.args.text.now) (Err f)) (sym f) (pinned (call_one _ _) (off (too_little (omega arith)))); records_afterwards = λ enough. absurd (omega arith); untouched_without_memory = λ _. refl }
 
 pub returns-in-Err : goal.returns-in-Err
@@ -37,11 +37,11 @@ returns-in-Err-new c =
     let room : leb n (vec_len c.args.records) ≡ true = le-leb n _ (omega (arith, s.few_words)) in
     absurd (refused_not_0 _ _ c.in-Err-new.ensures.asks_size_then_records (both_yes _ _ 41 57 sized room))
 
-pub returns-in-Ok-add-rest : goal.returns-in-Ok-add-rest
-returns-in-Ok-add-rest c =
+pub returns-in-Ok-add_rest : goal.returns-in-Ok-add_rest
+returns-in-Ok-add_rest c =
     let made = c.in-Ok-new.ensures in
     let s = first_line_sized _ _ c.in-Ok.ensures.reading.reads in
-    let x = c.in-Ok-add-rest.ensures.reading (record { build = made.made_flawless; state = made.made_cleared; distinct = tt; inside = tt }) in
+    let x = c.in-Ok-add_rest.ensures.reading (record { build = made.made_flawless; state = made.made_cleared; distinct = tt; inside = tt }) in
     let h = x.1.1 in
     record {
       text_read = record {
@@ -52,23 +52,23 @@ returns-in-Ok-add-rest c =
         each_defect_and_no_other = subst (Exactly x.0) (sym h.build) (exactly _ _ x.0 h.distinct);
         inside = h.inside;
       };
-      records_afterwards = later_words c.in-Ok.size.words c.in-Ok-new.array c.add-rest.new.array (vec_items c.args.records) c.in-Ok-add-rest.ensures.later_records_stay made.later_records_stay (omega (arith, s.few_words, c.args.records.ok.0)) (ap (λ B. B.words) made.made_flawless);
+      records_afterwards = later_words c.in-Ok.size.words c.in-Ok-new.array c.add_rest.new.array (vec_items c.args.records) c.in-Ok-add_rest.ensures.later_records_stay made.later_records_stay (omega (arith, s.few_words, c.args.records.ok.0)) (ap (λ B. B.words) made.made_flawless);
       untouched_without_memory = omega arith;
     }
 
-pub returns-in-Err-add-rest : goal.returns-in-Err-add-rest
-returns-in-Err-add-rest c =
+pub returns-in-Err-add_rest : goal.returns-in-Err-add_rest
+returns-in-Err-add_rest c =
     let made = c.in-Ok-new.ensures in
     let s = first_line_sized _ _ c.in-Ok.ensures.reading.reads in
     let n = c.in-Ok.size.words in
-    let p = c.add-rest.new.array in
+    let p = c.add_rest.new.array in
     let sized = within c.in-Ok.size s in
-    let words : n ≡ p.words = sym (ap (λ B. B.words) made.made_flawless) ∙ sym c.in-Err-add-rest.ensures.later_records_stay.words in
+    let words : n ≡ p.words = sym (ap (λ B. B.words) made.made_flawless) ∙ sym c.in-Err-add_rest.ensures.later_records_stay.words in
     let room : n ≤ vec_len p.records = omega (arith, p.recorded) in
-    let later = later_of n c.in-Ok-new.array p (vec_items c.args.records) c.in-Err-add-rest.ensures.later_records_stay made.later_records_stay (omega (arith, s.few_words, c.args.records.ok.0)) (ap (λ B. B.words) made.made_flawless) in
-    let given = c.given-up.ensures.words_blank_others_stay sized room
+    let later = later_of n c.in-Ok-new.array p (vec_items c.args.records) c.in-Err-add_rest.ensures.later_records_stay made.later_records_stay (omega (arith, s.few_words, c.args.records.ok.0)) (ap (λ B. B.words) made.made_flawless) in
+    let given = c.given_up.ensures.words_blank_others_stay sized room
     ∙ blanked_same n (vec_items p.records) (vec_items c.args.records) (omega (arith, p.records.ok.0)) (omega (arith, s.few_words, c.args.records.ok.0)) later in
-    let x = c.in-Err-add-rest.ensures.reading (record { build = made.made_flawless; state = made.made_cleared; distinct = tt; inside = tt }) in
+    let x = c.in-Err-add_rest.ensures.reading (record { build = made.made_flawless; state = made.made_cleared; distinct = tt; inside = tt }) in
     record {
       text_read = pinned (call_one _ _) (on (enough (omega arith)) (on c.in-Ok.ensures.reading.reads (off x)));
       records_afterwards = λ _. record {

@@ -46,7 +46,7 @@ returns-in-Ok c =
           (and_from (leb 1 w) (leb w 16) (le-leb 1 w (omega arith)) (le-leb w 16 (omega arith))))
           (le-leb n _ (omega (arith, c.len.ensures, c.if-len-words.false)));
       row_of_each_fault = rows;
-      records_come_back = blank_first n (vec_items back) _ fits (ap vec_items c.into-records.ensures.records_as_they_are ∙ c.in-Ok.ensures.later_records_stay);
+      records_come_back = blank_first n (vec_items back) _ fits (ap vec_items c.into_records.ensures.records_as_they_are ∙ c.in-Ok.ensures.later_records_stay);
       mlt1_detects_every_place = λ e. rows ∙ full_rows (elements_of c.args.test.now) n w e (omega arith) (omega arith);
       mlt1_detects_at_every_size = detects_all;
       places_of_faults = places_are;

@@ -31,7 +31,7 @@ loop-word-preserved c =
     let det : Place → Bool = detected_at (elements_of c.args.test.now) f c.args.size.words w in
     let a = c.loop-word.word in
     let inv = c.loop-column.invariant in
-    let all : c.loop-column.column ≡ places_in f w = omega (arith, c.loop-column-test.false, c.places-in-word-column-end.ensures.cells_or_mark) in
+    let all : c.loop-column.column ≡ places_in f w = omega (arith, c.loop-column-test.false, c.places_in_word-column-end.ensures.cells_or_mark) in
     let here : count_of det (some_of c.loop-column.column a) ≡ count_of det (some_of (places_in f w) a) = ap (λ (n : ℕ). count_of det (some_of n a)) all in (
       omega (arith, inv.0, c.loop-word.invariant.0, word_more det f w a),
       omega (arith, inv.1, c.loop-word.invariant.1, places_few f w c.args.size.some_bits, c.args.size.few_bits),

@@ -10,12 +10,12 @@ use Rattle.campaigns.proofs.campaign.fill.Goals as goal
 pub loop-number-preserved : goal.loop-number-preserved
 loop-number-preserved c =
     let row : CampaignFault → Row = row_of (elements_of c.args.test.now) c.args.size.words c.args.size.width in
-    let faults = c.faults-of-rows-faults.result in
+    let faults = c.faults_of_rows-faults.result in
     let rows = c.loop-number.rows in
     let i = c.loop-number.number in
     let inv = c.loop-number.invariant in
     let told = c.tell-returned.ensures in
-    let many : length faults ≡ 15 = ap length c.faults-of-rows-faults.ensures.in_order in (
+    let many : length faults ≡ 15 = ap length c.faults_of_rows-faults.ensures.in_order in (
       take_more_set rows i _ (omega arith) ∙ ap₂ (λ xs x. xs ++ x ∷ []) inv.0 told.row_of_fault ∙ sym (map_more row faults i _ (omega arith)),
       length-set rows i _ ∙ inv.1,
       told.still_a_record_a_word,
@@ -30,5 +30,5 @@ returns c =
     let all : i ≡ 15 = omega arith in
     let filled : rows ≡ map row campaign_faults =
     sym (take_all i rows (omega arith)) ∙ inv.0
-    ∙ ap₂ (λ (n : ℕ) fs. map row (take n fs)) all c.faults-of-rows-faults.ensures.in_order in
+    ∙ ap₂ (λ (n : ℕ) fs. map row (take n fs)) all c.faults_of_rows-faults.ensures.in_order in
     record { row_of_each_fault = filled; still_a_record_a_word = inv.2 }

@@ -9,8 +9,8 @@ use Rattle.trials.proofs.Outlooks.{whole_is}
 use Rattle.campaigns.proofs.Sights.{sight_step, sight_at, sight_miss, sight_end}
 use Rattle.campaigns.proofs.detecting.detects.Goals as goal
 
-pub overflow-add-operation : goal.overflow-add-operation
-overflow-add-operation g c =
+pub overflow_add-operation : goal.overflow_add-operation
+overflow_add-operation g c =
     let n = c.words-words.result in
     let w = min c.width-width.result 64 in
     let r : Element = get_or c.elements-element-items.result.now c.elements.element-index beyond in
@@ -49,7 +49,7 @@ loop-visit-preserved g c =
     let rs = c.elements-element-items.result.now in
     let r : Element = get_or rs i beyond in
     let at = element_at rs (map meant rs) i beyond refl c.elements-test.true in
-    let none = c.in-default.ensures.step_of_visit in (
+    let none = c.in_default.ensures.step_of_visit in (
       sym (sight_at _ _ _ _ (left_visit n w (map meant rs) i (meant r) c.loop-visit.visit c.loop-step.operation at none (omega (arith, c.loop-visit-test.true, c.visits-visit-end.ensures.visit_count))))
           ∙ c.loop-step.invariant.0 ∙ c.loop-visit.invariant.0,
       c.loop-step.invariant.1,

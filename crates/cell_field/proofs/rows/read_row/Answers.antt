@@ -4,8 +4,8 @@ use Rattle.cell_field.proofs.Places.{cell_at, room, value_set, value_left}
 use Rattle.cell_field.proofs.rows.read_row.Goals as goal
 use Rattle.cell_field.proofs.rows.read_row.Goals.{then-held, else-held}
 
-pub overflow-add-bits : goal.overflow-add-bits
-overflow-add-bits g c =
+pub overflow_add-bits : goal.overflow_add-bits
+overflow_add-bits g c =
     let i = c.loop-column.column in
     let held : ℕ → Bool = λ j. (at (map g.C.CellKind.meaning c.args.cells.now) (c.args.start + j)).held in
     let few : i < 64 = omega arith in

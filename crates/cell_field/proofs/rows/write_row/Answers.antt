@@ -6,7 +6,7 @@ use Rattle.cells.specs.Meaning.{CellMeaning, taken}
 use Rattle.cell_field.specs.Field.{at, blank_cell}
 use Rattle.cell_field.proofs.Places.{cell_set, cell_other, wrote_none, wrote_more}
 use Rattle.cell_field.proofs.rows.write_row.Goals as goal
-use Rattle.cell_field.proofs.rows.write_row.Goals.{then-not-bit-is-set, else-not-bit-is-set}
+use Rattle.cell_field.proofs.rows.write_row.Goals.{then-not-bit_is_set, else-not-bit_is_set}
 
 pub loop-column-init : goal.loop-column-init
 loop-column-init g c = wrote_none c.args.start c.args.pattern c.args.mask (map g.C.CellKind.meaning c.args.cells.now)
@@ -21,16 +21,16 @@ loop-column-preserved g c =
     let p = c.args.pattern in
     let m = c.args.mask in
     let inside : s + i < length xs = omega (arith, c.loop-column.auto.cells) in
-    let next = wrote_more s i p m (map f old) (map f xs) (map f c.if-not-bit-is-set.cells) c.loop-column.invariant in
-    elim c.if-not-bit-is-set.branch [
-      | then-not-bit-is-set w ↦
+    let next = wrote_more s i p m (map f old) (map f xs) (map f c.if-not-bit_is_set.cells) c.loop-column.invariant in
+    elim c.if-not-bit_is_set.branch [
+      | then-not-bit_is_set w ↦
           let cell = get_or-map f xs (s + i) w.index-cells-start.result blank_cell inside in
-          let off : bit m i ≡ false = sym c.bit-is-set.ensures.bit_at_place ∙ w.if-not-bit-is-set.true in
+          let off : bit m i ≡ false = sym c.bit_is_set.ensures.bit_at_place ∙ w.if-not-bit_is_set.true in
           next
           (ap (λ ys. at (map f ys) (s + i)) w.cells-is ∙ cell_set f xs (s + i) w.take.new.self inside ∙ w.take.ensures.bit_taken
-          ∙ ap₂ taken w.bit-is-set-bit.ensures.bit_at_place (sym cell) ∙ sym (cond-false (bit m i) _ _ off))
+          ∙ ap₂ taken w.bit_is_set-bit.ensures.bit_at_place (sym cell) ∙ sym (cond-false (bit m i) _ _ off))
           (λ k ne. ap (λ ys. at (map f ys) k) w.cells-is ∙ cell_other f xs (s + i) k w.take.new.self ne)
-      | else-not-bit-is-set w ↦
-          let on : bit m i ≡ true = sym c.bit-is-set.ensures.bit_at_place ∙ w.if-not-bit-is-set.false in
+      | else-not-bit_is_set w ↦
+          let on : bit m i ≡ true = sym c.bit_is_set.ensures.bit_at_place ∙ w.if-not-bit_is_set.false in
           next (ap (λ ys. at (map f ys) (s + i)) w.cells-is ∙ sym (cond-true (bit m i) _ _ on)) (λ k ne. ap (λ ys. at (map f ys) k) w.cells-is)
     ]

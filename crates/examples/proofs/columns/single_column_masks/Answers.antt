@@ -39,7 +39,7 @@ leg = search rules
 pub returns : goal.returns
 returns c =
     record {
-      masks_6_5_3 = λ d. c.all-but-column.ensures.mask d ∷ c.all-but-column-2.ensures.mask d ∷ c.all-but-column-3.ensures.mask d ∷ [];
+      masks_6_5_3 = λ d. c.all_but_column.ensures.mask d ∷ c.all_but_column-2.ensures.mask d ∷ c.all_but_column-3.ensures.mask d ∷ [];
       lengths_of_mlt1_and_chart = lengths;
       norise_cell_does_not_rise_again = norise;
       judged_array_has_4_misses = judged;

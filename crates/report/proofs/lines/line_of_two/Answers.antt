@@ -13,16 +13,16 @@ returns c =
     let x4 = decimal c.args.b in
     let x5 = c.args.end.now in
     let room : 64 ≤ length b = c.if-buffer-lt64.false in
-    let n2 = c.put-number-at.ensures.at_most_ten in
-    let n4 = c.put-number-at-2.ensures.at_most_ten in
+    let n2 = c.put_number-at.ensures.at_most_ten in
+    let n4 = c.put_number-at-2.ensures.at_most_ten in
     let l12 = length-append x1 x2 in
     let l123 = length-append (x1 ++ x2) x3 in
     let l1234 = length-append ((x1 ++ x2) ++ x3) x4 in
-    let f1 : Stands b 0 x1 _ _ = record { ends = c.put-text-at.ensures.place_after; text = c.put-text-at.ensures.written_over } in
-    let f2 = stands_more b 0 x1 x2 _ _ _ _ f1 c.put-number-at.ensures.written_over c.put-number-at.ensures.place_after (omega (arith, c.requires.short_first)) in
-    let f3 = stands_more b 0 (x1 ++ x2) x3 _ _ _ _ f2 c.put-text-at-2.ensures.written_over c.put-text-at-2.ensures.place_after (omega (arith, c.requires.short_first, c.requires.short_second)) in
-    let f4 = stands_more b 0 ((x1 ++ x2) ++ x3) x4 _ _ _ _ f3 c.put-number-at-2.ensures.written_over c.put-number-at-2.ensures.place_after (omega (arith, c.requires.short_first, c.requires.short_second)) in
-    let f5 = stands_more b 0 (((x1 ++ x2) ++ x3) ++ x4) x5 _ _ _ _ f4 c.put-text.ensures.written_over c.put-text.ensures.place_after (omega (arith, c.requires.short_first, c.requires.short_second, c.requires.short_end)) in
+    let f1 : Stands b 0 x1 _ _ = record { ends = c.put_text-at.ensures.place_after; text = c.put_text-at.ensures.written_over } in
+    let f2 = stands_more b 0 x1 x2 _ _ _ _ f1 c.put_number-at.ensures.written_over c.put_number-at.ensures.place_after (omega (arith, c.requires.short_first)) in
+    let f3 = stands_more b 0 (x1 ++ x2) x3 _ _ _ _ f2 c.put_text-at-2.ensures.written_over c.put_text-at-2.ensures.place_after (omega (arith, c.requires.short_first, c.requires.short_second)) in
+    let f4 = stands_more b 0 ((x1 ++ x2) ++ x3) x4 _ _ _ _ f3 c.put_number-at-2.ensures.written_over c.put_number-at-2.ensures.place_after (omega (arith, c.requires.short_first, c.requires.short_second)) in
+    let f5 = stands_more b 0 (((x1 ++ x2) ++ x3) ++ x4) x5 _ _ _ _ f4 c.put_text.ensures.written_over c.put_text.ensures.place_after (omega (arith, c.requires.short_first, c.requires.short_second, c.requires.short_end)) in
     let regroup : (((x1 ++ x2) ++ x3) ++ x4) ++ x5 ≡ x1 ++ (x2 ++ (x3 ++ (x4 ++ x5))) = simp append_assoc in
     record {
       asks_in_order = cond-true (leb 64 (length b)) 0 57 (le-leb 64 (length b) room);

@@ -11,7 +11,7 @@ returns c =
     let part : take (10 - from) (drop from row) ≡ decimal c.args.number =
     take_all (10 - from) (drop from row) (omega (arith, length-drop from row, told.ten_places)) ∙ told.digits_from_the_place in
     record {
-      written_over = c.put-text.ensures.written_over ∙ ap (over c.args.buffer.now c.args.at) part;
-      place_after = c.put-text.ensures.place_after ∙ ap (λ xs. c.args.at + length xs) part;
+      written_over = c.put_text.ensures.written_over ∙ ap (over c.args.buffer.now c.args.at) part;
+      place_after = c.put_text.ensures.place_after ∙ ap (λ xs. c.args.at + length xs) part;
       at_most_ten = omega (arith, ap length told.digits_from_the_place, length-drop from row, told.ten_places);
     }

@@ -10,34 +10,34 @@ use Rattle.sheets.proofs.Ones.{sheet_one, title_allowed, begun}
 use Rattle.sheets.proofs.Wholes.{sheet_whole}
 use Rattle.sheets.proofs.sheet.read_sheet.Goals as goal
 
-pub returns-in-err-title : goal.returns-in-err-title
-returns-in-err-title c =
-    let p = err_from_is_err_and c.from-residual.result c.from-residual.ensures.1 in
-    rw (p.1, p.2) record { reading = pinned (sheet_one c.args.text.now) (off c.in-err-title.ensures.reading.reads); whole_test = tt }
+pub returns-in_err-title : goal.returns-in_err-title
+returns-in_err-title c =
+    let p = err_from_is_err_and c.from_residual.result c.from_residual.ensures.1 in
+    rw (p.1, p.2) record { reading = pinned (sheet_one c.args.text.now) (off c.in_err-title.ensures.reading.reads); whole_test = tt }
 
-pub returns-in-err-new : goal.returns-in-err-new
-returns-in-err-new c =
-    let named = title_allowed c.args.text.now c.in-ok-title.title c.in-ok-title.ensures.reading.reads in
-    absurd (refused_not_0 _ _ c.in-err-new.ensures.asks_letters_and_digits (cond-true _ 0 63 named))
+pub returns-in_err-new : goal.returns-in_err-new
+returns-in_err-new c =
+    let named = title_allowed c.args.text.now c.in_ok-title.title c.in_ok-title.ensures.reading.reads in
+    absurd (refused_not_0 _ _ c.in_err-new.ensures.asks_letters_and_digits (cond-true _ 0 63 named))
 
-pub returns-in-err-closed : goal.returns-in-err-closed
-returns-in-err-closed c =
-    let p = err_from_is_err_and c.from-residual-in-err-closed.result c.from-residual-in-err-closed.ensures.1 in
-    rw (p.1, p.2) record { reading = pinned (sheet_one c.args.text.now) (on c.in-ok-title.ensures.reading.reads (off (begun c.named-test.ensures.no_element c.in-err-closed.ensures.reading.reads))); whole_test = tt }
+pub returns-in_err-closed : goal.returns-in_err-closed
+returns-in_err-closed c =
+    let p = err_from_is_err_and c.from_residual-in_err-closed.result c.from_residual-in_err-closed.ensures.1 in
+    rw (p.1, p.2) record { reading = pinned (sheet_one c.args.text.now) (on c.in_ok-title.ensures.reading.reads (off (begun c.named-test.ensures.no_element c.in_err-closed.ensures.reading.reads))); whole_test = tt }
 
-pub returns-in-err-ended : goal.returns-in-err-ended
-returns-in-err-ended c =
-    let p = err_from_is_err_and c.from-residual-in-err-ended.result c.from-residual-in-err-ended.ensures.1 in
-    rw (p.1, p.2) record { reading = pinned (sheet_one c.args.text.now) (on c.in-ok-title.ensures.reading.reads (on (begun c.named-test.ensures.no_element c.in-ok-closed.ensures.reading.reads) (off c.in-err-ended.ensures.reading.reads))); whole_test = tt }
+pub returns-in_err-ended : goal.returns-in_err-ended
+returns-in_err-ended c =
+    let p = err_from_is_err_and c.from_residual-in_err-ended.result c.from_residual-in_err-ended.ensures.1 in
+    rw (p.1, p.2) record { reading = pinned (sheet_one c.args.text.now) (on c.in_ok-title.ensures.reading.reads (on (begun c.named-test.ensures.no_element c.in_ok-closed.ensures.reading.reads) (off c.in_err-ended.ensures.reading.reads))); whole_test = tt }
 
-pub returns-in-err-want : goal.returns-in-err-want
-returns-in-err-want c =
-    let p = err_from_is_err_and c.from-residual-in-err-want.result c.from-residual-in-err-want.ensures.1 in
-    rw (p.1, p.2) record { reading = pinned (sheet_one c.args.text.now) (on c.in-ok-title.ensures.reading.reads (on (begun c.named-test.ensures.no_element c.in-ok-closed.ensures.reading.reads) (on c.in-ok-ended.ensures.reading.reads (off c.in-err-want.ensures.reading.reads)))); whole_test = tt }
+pub returns-in_err-want : goal.returns-in_err-want
+returns-in_err-want c =
+    let p = err_from_is_err_and c.from_residual-in_err-want.result c.from_residual-in_err-want.ensures.1 in
+    rw (p.1, p.2) record { reading = pinned (sheet_one c.args.text.now) (on c.in_ok-title.ensures.reading.reads (on (begun c.named-test.ensures.no_element c.in_ok-closed.ensures.reading.reads) (on c.in_ok-ended.ensures.reading.reads (off c.in_err-want.ensures.reading.reads)))); whole_test = tt }
 
 pub returns : goal.returns
 returns c =
-    let named : name_of c.read-lines.new.test ≡ bytes_of c.args.text.now c.in-ok-title.title.name =
-    c.in-ok-closed.ensures.name_stays ∙ c.named-test.ensures.its_name ∙ c.in-ok-new.ensures.that_name in
-    let x = on c.in-ok-title.ensures.reading.reads (on (begun c.named-test.ensures.no_element c.in-ok-closed.ensures.reading.reads) (on c.in-ok-ended.ensures.reading.reads (on c.in-ok-want.ensures.reading.reads (ap (λ n. Ok (record { name = n; elements = elements_of c.read-lines.new.test })) named)))) in
+    let named : name_of c.read_lines.new.test ≡ bytes_of c.args.text.now c.in_ok-title.title.name =
+    c.in_ok-closed.ensures.name_stays ∙ c.named-test.ensures.its_name ∙ c.in_ok-new.ensures.that_name in
+    let x = on c.in_ok-title.ensures.reading.reads (on (begun c.named-test.ensures.no_element c.in_ok-closed.ensures.reading.reads) (on c.in_ok-ended.ensures.reading.reads (on c.in_ok-want.ensures.reading.reads (ap (λ n. Ok (record { name = n; elements = elements_of c.read_lines.new.test })) named)))) in
     record { reading = pinned (sheet_one c.args.text.now) x; whole_test = sheet_whole _ _ x }

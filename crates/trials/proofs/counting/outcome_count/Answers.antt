@@ -10,8 +10,8 @@ use Rattle.trials.proofs.counting.outcome_count.Goals as goal
 pub loop-element-init : goal.loop-element-init
 loop-element-init c = (omega arith, omega arith)
 
-pub overflow-add-count : goal.overflow-add-count
-overflow-add-count c =
+pub overflow_add-count : goal.overflow_add-count
+overflow_add-count c =
     let rs = c.elements-element-items.result.now in
     omega (
       arith,
@@ -19,7 +19,7 @@ overflow-add-count c =
       elements_few c.args.test.now,
       ap length c.elements-element-items.ensures.all_elements,
       length-map rs meant,
-      mul-le-mul c.checks-of.ensures.at_most_eight (let l : c.visits.result ≤ 65535 = omega arith in l),
+      mul-le-mul c.checks_of.ensures.at_most_eight (let l : c.visits.result ≤ 65535 = omega arith in l),
     )
 
 pub loop-element-preserved : goal.loop-element-preserved
@@ -28,11 +28,11 @@ loop-element-preserved c =
     let w = min c.args.width 64 in
     let rs = c.elements-element-items.result.now in
     let i = c.loop-element.element-index in
-    let next : check_count (schedule n w (map meant (drop i rs))) ≡ c.checks-of.result * c.visits.result + check_count (schedule n w (map meant (drop (i + 1) rs))) =
+    let next : check_count (schedule n w (map meant (drop i rs))) ≡ c.checks_of.result * c.visits.result + check_count (schedule n w (map meant (drop (i + 1) rs))) =
     count_turn n w rs i beyond c.loop-element-test.true
-    ∙ ap (λ (k : ℕ). k + check_count (schedule n w (map meant (drop (i + 1) rs)))) (sym (ap₂ (λ (a b : ℕ). a * b) c.checks-of.ensures.reads_and_compares c.visits.ensures.visit_count)) in (
+    ∙ ap (λ (k : ℕ). k + check_count (schedule n w (map meant (drop (i + 1) rs)))) (sym (ap₂ (λ (a b : ℕ). a * b) c.checks_of.ensures.reads_and_compares c.visits.ensures.visit_count)) in (
       omega (arith, c.loop-element.invariant.0),
-      omega (arith, c.loop-element.invariant.1, mul-le-mul c.checks-of.ensures.at_most_eight (let l : c.visits.result ≤ 65535 = omega arith in l)),
+      omega (arith, c.loop-element.invariant.1, mul-le-mul c.checks_of.ensures.at_most_eight (let l : c.visits.result ≤ 65535 = omega arith in l)),
     )
 
 pub returns : goal.returns

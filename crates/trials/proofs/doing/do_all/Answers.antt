@@ -7,8 +7,8 @@ use Rattle.trials.proofs.Elements.{beyond, element_at, none_past, steps_few}
 use Rattle.trials.proofs.Outlooks.{outlook_step, outlook_at, outlook_end, outlook_room, whole_is}
 use Rattle.trials.proofs.doing.do_all.Goals as goal
 
-pub do-step-log-requires : goal.do-step-log-requires
-do-step-log-requires g c =
+pub do_step-log-requires : goal.do_step-log-requires
+do_step-log-requires g c =
     let m = g.C.CamArray in
     let x = c.args.array.now in
     let n = c.words-words.result in
@@ -25,8 +25,8 @@ do-step-log-requires g c =
     refl refl refl c.requires.room (omega arith) in
     record { room = fits.0; operations_fit = omega (arith, fits.1, few); misses_fit = omega (arith, fits.2, few) }
 
-pub overflow-add-operation : goal.overflow-add-operation
-overflow-add-operation g c =
+pub overflow_add-operation : goal.overflow_add-operation
+overflow_add-operation g c =
     let n = c.words-words.result in
     let w = min c.width-width.result 64 in
     let r : Element = get_or c.elements-element-items.result.now c.loop-element.element-index beyond in
@@ -50,7 +50,7 @@ loop-step-preserved g c =
     let r : Element = get_or rs i beyond in
     let at = element_at rs (map meant rs) i beyond refl c.loop-element-test.true in
     let found = c.in-Some.ensures.step_of_visit in
-    let told = c.do-step-log.ensures in
+    let told = c.do_step-log.ensures in
     let here = sym (outlook_at _ _ _ _ _ _ (left_step n w (map meant rs) i (meant r) c.loop-visit.visit c.loop-step.operation at _ found)) ∙ c.loop-step.invariant in
     let fits = outlook_room _ _ _ _ _ _ _ _ _ _ _ _
     (here ∙ c.loop-visit.invariant ∙ c.loop-element.invariant)
@@ -68,7 +68,7 @@ loop-visit-preserved g c =
     let rs = c.elements-element-items.result.now in
     let r : Element = get_or rs i beyond in
     let at = element_at rs (map meant rs) i beyond refl c.loop-element-test.true in
-    let none = c.in-default.ensures.step_of_visit in
+    let none = c.in_default.ensures.step_of_visit in
     sym (outlook_at _ _ _ _ _ _ (left_visit n w (map meant rs) i (meant r) c.loop-visit.visit c.loop-step.operation at none (omega (arith, c.loop-visit-test.true, c.visits-visit-end.ensures.visit_count))))
     ∙ c.loop-step.invariant ∙ c.loop-visit.invariant
 

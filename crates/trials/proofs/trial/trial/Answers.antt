@@ -15,10 +15,10 @@ returns-then-buffer-outcomes g c =
     let x = c.args.array.now in
     let B = m.build x in
     let es = elements_of c.args.test.now in
-    let count = counted_on B es _ _ _ c.words.ensures.word_count c.width.ensures.bits_of_word (m.formed x).few_bits c.outcome-count-outcomes.ensures.reads_and_compares in
+    let count = counted_on B es _ _ _ c.words.ensures.word_count c.width.ensures.bits_of_word (m.formed x).few_bits c.outcome_count-outcomes.ensures.reads_and_compares in
     let short : length c.args.buffer.now < check_count (steps_on B es) = omega (arith, c.if-buffer-outcomes.true, count) in
     record {
-      asks_room = subst (λ (n : ℕ). Refused n c.of-call.result) (sym (cond-false (leb (check_count (steps_on B es)) (length c.args.buffer.now)) 0 71 (lt-leb _ _ short))) c.of-call.ensures.refused_without_text;
+      asks_room = subst (λ (n : ℕ). Refused n c.of_call.result) (sym (cond-false (leb (check_count (steps_on B es)) (length c.args.buffer.now)) 0 71 (lt-leb _ _ short))) c.of_call.ensures.refused_without_text;
       operations_and_misses = refl;
       outcome_bytes = refl;
       state_after = refl;
@@ -33,10 +33,10 @@ returns g c =
     let x = c.args.array.now in
     let B = m.build x in
     let es = elements_of c.args.test.now in
-    let count = counted_on B es _ _ _ c.words.ensures.word_count c.width.ensures.bits_of_word (m.formed x).few_bits c.outcome-count-outcomes.ensures.reads_and_compares in
+    let count = counted_on B es _ _ _ c.words.ensures.word_count c.width.ensures.bits_of_word (m.formed x).few_bits c.outcome_count-outcomes.ensures.reads_and_compares in
     let fits : check_count (steps_on B es) ≤ length c.args.buffer.now = omega (arith, c.if-buffer-outcomes.false, count) in
-    let told = c.do-all-log.ensures in
-    let answer : ◌≡◌ {A = TrialResult} (record { operations = c.do-all-log.result.operations; misses = c.do-all-log.result.misses }) (trial_of B es (m.state x)) =
+    let told = c.do_all-log.ensures in
+    let answer : ◌≡◌ {A = TrialResult} (record { operations = c.do_all-log.result.operations; misses = c.do_all-log.result.misses }) (trial_of B es (m.state x)) =
     ap₂ (λ (a b : ℕ). record { operations = a; misses = b }) told.operations_and_misses.operations told.operations_and_misses.misses in
     record {
       asks_room = cond-true (leb (check_count (steps_on B es)) (length c.args.buffer.now)) 0 71 (le-leb _ _ fits);

@@ -17,9 +17,9 @@ returns-in-Ok-close g c =
     let went = c.step.ensures in
     let formed = m.formed x0.array in
     let done = all_done B S x0.books (m.build x1.array) (m.build x2.array) (m.state x1.array) (m.state x2.array) x1.books x2.books
-    c.in-Ok.ticket.number c.operation-count-operations.result c.step.result _ _ formed
+    c.in-Ok.ticket.number c.operation_count-operations.result c.step.result _ _ formed
     (ap m.build begun.array_stays) (ap m.state begun.array_stays) begun.started_or_unchanged begun.ticket_with_the_number_of_starts
-    (c.operation-count-operations.ensures.eleven_a_word_two_a_column ∙ ap₂ (λ (n w : ℕ). 11 * n + 2 * w) c.words.ensures.word_count c.width.ensures.bits_of_word)
+    (c.operation_count-operations.ensures.eleven_a_word_two_a_column ∙ ap₂ (λ (n w : ℕ). 11 * n + 2 * w) c.words.ensures.word_count c.width.ensures.bits_of_word)
     went.asks_in_order went.most_or_all_left went.next_steps_done went.other_books_stay went.build_stays in
     let ended = c.in-Ok-close.ensures in
     let finding = ended.finding_of_the_misses ∙ ap found done.missed in
@@ -46,8 +46,8 @@ returns-in-Err-close g c =
     let went = c.step.ensures in
     let formed = m.formed x0.array in
     let done = all_done B S x0.books (m.build x1.array) (m.build x2.array) (m.state x1.array) (m.state x2.array) x1.books x2.books
-    c.in-Ok.ticket.number c.operation-count-operations.result c.step.result _ _ formed
+    c.in-Ok.ticket.number c.operation_count-operations.result c.step.result _ _ formed
     (ap m.build begun.array_stays) (ap m.state begun.array_stays) begun.started_or_unchanged begun.ticket_with_the_number_of_starts
-    (c.operation-count-operations.ensures.eleven_a_word_two_a_column ∙ ap₂ (λ (n w : ℕ). 11 * n + 2 * w) c.words.ensures.word_count c.width.ensures.bits_of_word)
+    (c.operation_count-operations.ensures.eleven_a_word_two_a_column ∙ ap₂ (λ (n w : ℕ). 11 * n + 2 * w) c.words.ensures.word_count c.width.ensures.bits_of_word)
     went.asks_in_order went.most_or_all_left went.next_steps_done went.other_books_stay went.build_stays in
     absurd (refused_not_0 _ _ c.in-Err-close.ensures.asks_in_order done.asked)

@@ -5,7 +5,7 @@ use Rattle.cell_field.specs.declared.field.CellField.{CellField}
 use Rattle.cell_field.specs.Field.{used_words, field_build, field_state}
 use Rattle.cell_field.proofs.Meanings.{few_words, erase-state, erase-build, outside, count_state}
 use Rattle.cell_field.proofs.operating.CellFieldCamArray.erase.Goals as goal
-use Rattle.cell_field.proofs.operating.CellFieldCamArray.erase.Goals.{then-word-used-words, else-word-used-words}
+use Rattle.cell_field.proofs.operating.CellFieldCamArray.erase.Goals.{then-word-used_words, else-word-used_words}
 
 pub returns : goal.returns
 returns g c =
@@ -15,23 +15,23 @@ returns g c =
     let l = length xs in
     let a = c.args.word.number in
     let marks : length s.marks ≡ 256 = search rules in
-    let State-of : CellField g.row.C.Denot → ℕ → State = λ r t. field_state (map f r.cells.now) r.words r.width r.marks t in
-    let Build-of : CellField g.row.C.Denot → Build = λ r. field_build (map f r.cells.now) r.words r.width r.marks in
-    let counted = c.one-more-self.ensures.next in
-    elim c.if-word-used-words.branch [
-      | then-word-used-words w ↦
-          let inside : a < used_words s.words s.width l = omega (arith, c.used-words.ensures.words_used, w.if-word-used-words.true) in
+    let state_of : CellField g.row.C.Denot → ℕ → State = λ r t. field_state (map f r.cells.now) r.words r.width r.marks t in
+    let build_of : CellField g.row.C.Denot → Build = λ r. field_build (map f r.cells.now) r.words r.width r.marks in
+    let counted = c.one_more-self.ensures.next in
+    elim c.if-word-used_words.branch [
+      | then-word-used_words w ↦
+          let inside : a < used_words s.words s.width l = omega (arith, c.used_words.ensures.words_used, w.if-word-used_words.true) in
           let room : a < length s.marks = omega (arith, few_words s.words s.width l) in
           record {
-            state_after_erase = ap₂ State-of w.self-is (counted ∙ ap (λ (r : CellField g.row.C.Denot). one_more r.tally) w.self-is)
+            state_after_erase = ap₂ state_of w.self-is (counted ∙ ap (λ (r : CellField g.row.C.Denot). one_more r.tally) w.self-is)
                 ∙ erase-state f s.words s.width a l inside s.tally xs s.marks w.erased.result refl room w.erased.ensures.clear;
-            build_stays = ap Build-of w.self-is ∙ erase-build f s.words s.width a l inside s.tally xs s.marks w.erased.result refl room w.erased.ensures.stuck_stays;
+            build_stays = ap build_of w.self-is ∙ erase-build f s.words s.width a l inside s.tally xs s.marks w.erased.result refl room w.erased.ensures.stuck_stays;
           }
-      | else-word-used-words w ↦
-          let past : used_words s.words s.width l ≤ a = omega (arith, c.used-words.ensures.words_used, w.if-word-used-words.false) in
+      | else-word-used_words w ↦
+          let past : used_words s.words s.width l ≤ a = omega (arith, c.used_words.ensures.words_used, w.if-word-used_words.false) in
           record {
-            state_after_erase = ap₂ State-of w.self-is (counted ∙ ap (λ (r : CellField g.row.C.Denot). one_more r.tally) w.self-is) ∙ count_state (map f xs) s.words s.width s.marks s.tally
+            state_after_erase = ap₂ state_of w.self-is (counted ∙ ap (λ (r : CellField g.row.C.Denot). one_more r.tally) w.self-is) ∙ count_state (map f xs) s.words s.width s.marks s.tally
                 ∙ sym (erased_outside (field_build (map f xs) s.words s.width s.marks) _ a (outside f s.words s.width xs a past));
-            build_stays = ap Build-of w.self-is;
+            build_stays = ap build_of w.self-is;
           }
     ]
