@@ -1,6 +1,7 @@
 // Campaigns of MLT-1, and of MLT-1 without its columns elements, as figures; and a trial of the second.
 #![tactic(auto)]
 
+use anyhow::anyhow;
 use cam::defect::Pair;
 use cam::fault::Fault;
 use cam::index::{ColumnIndex, WordIndex};
@@ -25,9 +26,9 @@ const EMPTY: Row = Row {
 
 fn refused(fault: Fault) -> anyhow::Error {
     match fault.number() {
-        81 => "the campaign is too large".into(),
-        57 => "too few records".into(),
-        _ => "refused".into(),
+        81 => anyhow!("the campaign is too large"),
+        57 => anyhow!("too few records"),
+        _ => anyhow!("refused"),
     }
 }
 

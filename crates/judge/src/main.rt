@@ -1,6 +1,7 @@
 // Judges an array and prints what it found. So far the array is one of its own, with two defects.
 #![tactic(auto)]
 
+use anyhow::anyhow;
 use bench::judging::{Judged, Judgement, NotJudged, judge_array};
 use cam::defect::{Pair, StorageDefect};
 use cam::fault::Fault;
@@ -16,14 +17,11 @@ const WORDS: u16 = 2;
 const WIDTH: u8 = 3;
 
 // A refusal as the text that the program ends with.
-fn refused(heap: Global, fault: Fault) -> anyhow::Error {
+fn refused(fault: Fault) -> anyhow::Error {
     let number = fault.number();
     let layer = fault.layer_number();
     let place = fault.place;
-    match format!(in heap; "refused {number} {layer} {place}") {
-        Ok(text) => text.into(),
-        Err(_) => "refused".into(),
-    }
+    anyhow!("refused {number} {layer} {place}")
 }
 
 // The example: 2 words of 3 bits, cell (1, 2) always holds 0, and cell (0, 0) answers the pair 01 wrongly.
@@ -31,7 +29,7 @@ fn example_array(heap: Global) -> anyhow::Result<PlaneArray> {
     let records = vec![in heap; WordRecord::blank(); 2]?;
     let mut array = match PlaneArray::new(records, WORDS, WIDTH) {
         Ok(array) => array,
-        Err(NotMade { records: _, fault }) => return Err(refused(heap, fault)),
+        Err(NotMade { records: _, fault }) => return Err(refused(fault)),
     };
     let sa0 = array.plant_storage(
         WordIndex { number: 1 },
@@ -48,8 +46,8 @@ fn example_array(heap: Global) -> anyhow::Result<PlaneArray> {
     );
     match (sa0, wrong) {
         (Ok(()), Ok(())) => Ok(array),
-        (Err(fault), _) => Err(refused(heap, fault)),
-        (Ok(()), Err(fault)) => Err(refused(heap, fault)),
+        (Err(fault), _) => Err(refused(fault)),
+        (Ok(()), Err(fault)) => Err(refused(fault)),
     }
 }
 
@@ -65,7 +63,7 @@ fn print_line(
             rt.stdout().write_all(&buffer[0..end])?;
             Ok(())
         }
-        Err(fault) => Err(refused(rt.alloc(), fault)),
+        Err(fault) => Err(refused(fault)),
     }
 }
 
@@ -119,7 +117,7 @@ fn judge_example(rt: &HostRuntime) -> anyhow::Result<()> {
                 judgement,
             },
         ) => judgement,
-        Err(NotJudged { array: _, fault }) => return Err(refused(rt.alloc(), fault)),
+        Err(NotJudged { array: _, fault }) => return Err(refused(fault)),
     };
     print_totals(rt, judgement)?;
     print_cells(rt, judgement, chart.as_slice())

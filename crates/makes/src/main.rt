@@ -27,8 +27,8 @@ const SOUND: TableCell = TableCell {
 
 fn refused(fault: Fault) -> anyhow::Error {
     match fault.number() {
-        57 => "too little memory".into(),
-        _ => "refused".into(),
+        57 => anyhow!("too little memory"),
+        _ => anyhow!("refused"),
     }
 }
 

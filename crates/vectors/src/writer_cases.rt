@@ -64,7 +64,7 @@ fn refused(sheet: Sheet, fault: Fault) -> Called {
 }
 
 fn misplaced() -> anyhow::Error {
-    "a call that does not fit where the sheet stands".into()
+    anyhow!("a call that does not fit where the sheet stands")
 }
 
 fn call_new(piece: Piece<'_>, buffer: &mut [u8]) -> anyhow::Result<Called> {

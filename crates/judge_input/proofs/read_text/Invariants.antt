@@ -1,5 +1,5 @@
 use Rattle.std.proofs.Common.{◌-◌, ◌≤◌}
-use Rattle.judge.proofs.read_text.Given as goal
+use Rattle.judge_input.proofs.read_text.Given as goal
 
 -- what was read lies in the buffer
 abbrev pub invariant-loop-filled : goal.invariant-loop-filled

@@ -20,16 +20,16 @@ loop-at-init c =
 pub unreachable-requires : goal.unreachable-requires
 unreachable-requires c =
     let os = operations_of (meant c.args.element.now) in
-    let l : c.loop-at.at < length os = omega (arith, c.operation-count-at-end.ensures.how_many_operations) in
-    not_past os c.loop-at.at Erase l c.in-default.ensures.operation_at_place
+    let l : c.loop-at.at < length os = omega (arith, c.operation_count-at-end.ensures.how_many_operations) in
+    not_past os c.loop-at.at Erase l c.in_default.ensures.operation_at_place
 
 pub loop-at-preserved : goal.loop-at-preserved
 loop-at-preserved c =
     let os = operations_of (meant c.args.element.now) in
     let i = c.loop-at.at in
     let o = c.in-Some.operation in
-    let l : i < length os = omega (arith, c.operation-count-at-end.ensures.how_many_operations) in
-    let piece : length c.operation-piece.result.now ≡ length (operation_piece o) = ap length c.operation-piece.ensures.piece_of_operation in
+    let l : i < length os = omega (arith, c.operation_count-at-end.ensures.how_many_operations) in
+    let piece : length c.operation_piece.result.now ≡ length (operation_piece o) = ap length c.operation_piece.ensures.piece_of_operation in
     let step = length_step operation_piece os i o l (found os i o l c.in-Some.ensures.operation_at_place) in
     let inv = c.loop-at.invariant in
     (omega arith, omega (arith, operation_short o))
@@ -39,8 +39,8 @@ returns c =
     let e = meant c.args.element.now in
     let os = operations_of e in
     let i = c.loop-at.at in
-    let end : length os ≤ i = omega (arith, c.operation-count-at-end.ensures.how_many_operations) in
-    let few : i ≤ 8 = omega (arith, c.operation-count-at-end.ensures.how_many_operations, operations_few c.args.element.now) in
+    let end : length os ≤ i = omega (arith, c.operation_count-at-end.ensures.how_many_operations) in
+    let few : i ≤ 8 = omega (arith, c.operation_count-at-end.ensures.how_many_operations, operations_few c.args.element.now) in
     let all : length (flat_map operation_piece (take i os)) ≡ length (flat_map operation_piece os) = ap (λ xs. length (flat_map operation_piece xs)) (take_all i os end) in
     let inv = c.loop-at.invariant in
     record { length_of_line = omega (arith, line_length e); short_line = omega arith }

@@ -10,21 +10,21 @@ use Rattle.test_sheets.proofs.Joins.{length_step, mapped_at}
 use Rattle.test_sheets.proofs.Bytes.{sheet_length}
 use Rattle.test_sheets.proofs.lengths.sheet_length.Goals as goal
 
-pub overflow-add-bytes-in-loop-element : goal.overflow-add-bytes-in-loop-element
-overflow-add-bytes-in-loop-element c =
+pub overflow_add-bytes-in-loop-element : goal.overflow_add-bytes-in-loop-element
+overflow_add-bytes-in-loop-element c =
     let es = c.elements-elements.result.now in
     let few = elements_few c.args.test.now in
     let long : length es ≤ 16 = omega (arith, ap length c.elements-elements.ensures.all_elements, length-map es meant) in
     let i : c.loop-element.element-index < 16 = omega arith in
     let small : c.loop-element.bytes ≤ 25 + 98 * c.loop-element.element-index = c.loop-element.invariant.1 in
-    omega (arith, c.line-length-bytes.ensures.short_line)
+    omega (arith, c.line_length-bytes.ensures.short_line)
 
 pub loop-element-init : goal.loop-element-init
 loop-element-init c =
     let n = c.name-name.result in
-    let same : length c.as-bytes.result.now ≡ length (name_of c.args.test.now) =
-    ap length (c.as-bytes.ensures.letters ∙ c.name-name.ensures.its_name) in
-    let short : length c.as-bytes.result.now ≤ 16 = omega (arith, ap length c.as-bytes.ensures.letters, length-take n.count n.bytes, n.sixteen_at_most) in
+    let same : length c.as_bytes.result.now ≡ length (name_of c.args.test.now) =
+    ap length (c.as_bytes.ensures.letters ∙ c.name-name.ensures.its_name) in
+    let short : length c.as_bytes.result.now ≤ 16 = omega (arith, ap length c.as_bytes.ensures.letters, length-take n.count n.bytes, n.sixteen_at_most) in
     (omega arith, omega arith)
 
 pub loop-element-preserved : goal.loop-element-preserved
@@ -33,10 +33,10 @@ loop-element-preserved c =
     let i = c.loop-element.element-index in
     let l : i < length es = c.loop-element-test.true in
     let inside : i < length (map meant es) = omega (arith, length-map es meant) in
-    let line = c.line-length-bytes.ensures.length_of_line in
+    let line = c.line_length-bytes.ensures.length_of_line in
     let step = length_step element_line (map meant es) i (meant (get_or es i bare)) inside (mapped_at meant es i bare l) in
     let inv = c.loop-element.invariant in
-    (omega arith, omega (arith, c.line-length-bytes.ensures.short_line))
+    (omega arith, omega (arith, c.line_length-bytes.ensures.short_line))
 
 pub returns : goal.returns
 returns c =

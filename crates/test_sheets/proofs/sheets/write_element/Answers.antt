@@ -22,8 +22,8 @@ unreachable-requires c =
     (both_yes (ltb s.elements 16) (fits s.at h b) 31 61 (lt-ltb s.elements 16 c.requires.few_elements)
     (le-leb (s.at + length h) (length b) (omega (arith, line_length e, c.requires.room))))
 
-pub write-operations-filled-requires : goal.write-operations-filled-requires
-write-operations-filled-requires c =
+pub write_operations-filled-requires : goal.write_operations-filled-requires
+write_operations-filled-requires c =
     let e = meant c.args.element.now in
     let wrote = c.in-Ok.ensures.heading_written in
     let same : length (heading c.order.result) ≡ length (heading (order_of e)) = ap (λ o. length (heading o)) c.order.ensures.what_it_visits in
@@ -37,13 +37,13 @@ pub unreachable-requires-in-Err-close : goal.unreachable-requires-in-Err-close
 unreachable-requires-in-Err-close c =
     let e = meant c.args.element.now in
     let wrote = c.in-Ok.ensures.heading_written in
-    let t = c.write-operations-filled.result in
-    let b = c.write-operations-filled.new.buffer in
+    let t = c.write_operations-filled.result in
+    let b = c.write_operations-filled.new.buffer in
     let same : length (heading c.order.result) ≡ length (heading (order_of e)) = ap (λ o. length (heading o)) c.order.ensures.what_it_visits in
-    let after = c.write-operations-filled.ensures.state_after in
+    let after = c.write_operations-filled.ensures.state_after in
     let some : 0 < t.operations = omega (arith, ap (λ s. s.operations) after, c.requires.some_operation) in
     let room : t.at + length ending ≤ length b =
-    omega (arith, ap (λ s. s.at) after, ap (λ s. s.at) wrote.0, c.open.auto.buffer, c.write-operations-filled.auto.buffer, line_length e, c.requires.room) in
+    omega (arith, ap (λ s. s.at) after, ap (λ s. s.at) wrote.0, c.open.auto.buffer, c.write_operations-filled.auto.buffer, line_length e, c.requires.room) in
     refused_not_0 _ _ c.in-Err-close.ensures.asks_in_order
     (both_yes (fits t.at ending b) (ltb 0 t.operations) 61 62 (le-leb (t.at + length ending) (length b) room) (lt-ltb 0 t.operations some))
 
@@ -55,14 +55,14 @@ returns c =
     let h = heading c.order.result in
     let p = flat_map operation_piece (operations_of e) in
     let wrote = c.in-Ok.ensures.heading_written in
-    let filled = c.write-operations-filled.ensures in
+    let filled = c.write_operations-filled.ensures in
     let closed = c.in-Ok-close.ensures.ending_written in
     let visits = c.order.ensures.what_it_visits in
     let same : length h ≡ length (heading (order_of e)) = ap (λ o. length (heading o)) visits in
     let line = line_length e in
     let room = c.requires.room in
     let first : Stands b s.at h c.in-Ok.next.at c.open.new.buffer = record { ends = ap (λ s. s.at) wrote.0; text = wrote.1 } in
-    let second = stands_more b s.at h p _ c.write-operations-filled.result.at _ _ first filled.operations_written (ap (λ s. s.at) filled.state_after) (omega arith) in
+    let second = stands_more b s.at h p _ c.write_operations-filled.result.at _ _ first filled.operations_written (ap (λ s. s.at) filled.state_after) (omega arith) in
     let third = stands_more b s.at (h ++ p) ending _ c.in-Ok-close.next.at _ _ second closed.1 (ap (λ s. s.at) closed.0) (omega (arith, length-append h p)) in
     let whole : (h ++ p) ++ ending ≡ element_line e = append_assoc h p ending ∙ ap (λ o. heading o ++ (p ++ ending)) visits in
     let place : c.in-Ok-close.next.at ≡ s.at + length (element_line e) = third.ends ∙ ap (λ xs. s.at + length xs) whole in

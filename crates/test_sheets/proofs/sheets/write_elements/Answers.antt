@@ -15,8 +15,8 @@ pub loop-element-init : goal.loop-element-init
 loop-element-init c =
     (pieces_none element_line c.args.state.at (map meant c.args.elements.now) c.args.buffer.now, sym (add-zero c.args.state.elements))
 
-pub write-element-state-requires : goal.write-element-state-requires
-write-element-state-requires c =
+pub write_element-state-requires : goal.write_element-state-requires
+write_element-state-requires c =
     let es = c.args.elements.now in
     let i = c.loop-element.element-index in
     let e = meant (get_or es i bare) in
@@ -41,11 +41,11 @@ loop-element-preserved c =
     let l : i < length es = c.loop-element-test.true in
     let inside : i < length (map meant es) = omega (arith, length-map es meant) in
     let is = mapped_at meant es i bare l in
-    let wrote = c.write-element-state.ensures in
+    let wrote = c.write_element-state.ensures in
     let room : c.args.state.at + length (flat_map element_line (take i (map meant es))) + length (element_line e) ≤ length c.args.buffer.now =
     omega (arith, joined_within element_line (map meant es) i e inside is, c.requires.room) in (
-      pieces_more element_line c.args.state.at (map meant es) c.args.buffer.now i c.loop-element.buffer c.write-element-state.new.buffer
-          c.loop-element.state.at c.write-element-state.result.at e
+      pieces_more element_line c.args.state.at (map meant es) c.args.buffer.now i c.loop-element.buffer c.write_element-state.new.buffer
+          c.loop-element.state.at c.write_element-state.result.at e
           inv.0 inside is room (ap (λ s. s.at) wrote.state_after) wrote.line_written,
       omega (arith, ap (λ s. s.elements) wrote.state_after, inv.1),
     )

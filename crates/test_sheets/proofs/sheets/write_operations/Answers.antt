@@ -18,8 +18,8 @@ loop-at-init c =
 pub unreachable-requires : goal.unreachable-requires
 unreachable-requires c =
     let os = operations_of (meant c.args.element.now) in
-    let l : c.loop-at.at < length os = omega (arith, c.operation-count-at-end.ensures.how_many_operations) in
-    not_past os c.loop-at.at Erase l c.in-default.ensures.operation_at_place
+    let l : c.loop-at.at < length os = omega (arith, c.operation_count-at-end.ensures.how_many_operations) in
+    not_past os c.loop-at.at Erase l c.in_default.ensures.operation_at_place
 
 pub unreachable-requires-in-Err : goal.unreachable-requires-in-Err
 unreachable-requires-in-Err c =
@@ -28,7 +28,7 @@ unreachable-requires-in-Err c =
     let i = c.loop-at.at in
     let o = c.in-Some.operation in
     let inv = c.loop-at.invariant in
-    let l : i < length os = omega (arith, c.operation-count-at-end.ensures.how_many_operations) in
+    let l : i < length os = omega (arith, c.operation_count-at-end.ensures.how_many_operations) in
     let is = found os i o l c.in-Some.ensures.operation_at_place in
     let kept : length c.loop-at.buffer ≡ length c.args.buffer.now = c.loop-at.auto.buffer in
     let room : c.loop-at.state.at + length (operation_piece o) ≤ length c.loop-at.buffer =
@@ -42,7 +42,7 @@ loop-at-preserved c =
     let i = c.loop-at.at in
     let o = c.in-Some.operation in
     let inv = c.loop-at.invariant in
-    let l : i < length os = omega (arith, c.operation-count-at-end.ensures.how_many_operations) in
+    let l : i < length os = omega (arith, c.operation_count-at-end.ensures.how_many_operations) in
     let is = found os i o l c.in-Some.ensures.operation_at_place in
     let room : c.args.state.at + length (flat_map operation_piece (take i os)) + length (operation_piece o) ≤ length c.args.buffer.now =
     omega (arith, joined_within operation_piece os i o l is, c.requires.room) in
@@ -58,7 +58,7 @@ pub returns : goal.returns
 returns c =
     let os = operations_of (meant c.args.element.now) in
     let inv = c.loop-at.invariant in
-    let end : c.loop-at.at ≡ length os = omega (arith, c.operation-count-at-end.ensures.how_many_operations, c.loop-at.auto.at_end) in
+    let end : c.loop-at.at ≡ length os = omega (arith, c.operation_count-at-end.ensures.how_many_operations, c.loop-at.auto.at-end) in
     let both = pieces_all operation_piece c.args.state.at os c.args.buffer.now c.loop-at.at c.loop-at.buffer c.loop-at.state.at inv.0 (omega arith) in
     let counted = inv.3 ∙ end in
     record {

@@ -30,16 +30,16 @@ whole_parts es e =
 begin_length : (name : List ℕ) → length (beginning name) ≡ 7 + length name
 begin_length name = omega (arith, length-append name (codes "\n"))
 
-pub returns-then-buffer-sheet-length : goal.returns-then-buffer-sheet-length
-returns-then-buffer-sheet-length c =
+pub returns-then-buffer-sheet_length : goal.returns-then-buffer-sheet_length
+returns-then-buffer-sheet_length c =
     let t = c.args.test.now in
     let b = c.args.buffer.now in
-    let whole : is_whole (elements_of t) ≡ true = sym c.if-not-is-whole.ensures.decides_whole in
+    let whole : is_whole (elements_of t) ≡ true = sym c.if-not-is_whole.ensures.decides_whole in
     let past : fits 0 (sheet_text t) b ≡ false =
-    lt-leb (0 + length (sheet_text t)) (length b) (omega (arith, c.sheet-length.ensures.length_of_sheet, c.if-buffer-sheet-length.true)) in
+    lt-leb (0 + length (sheet_text t)) (length b) (omega (arith, c.sheet_length.ensures.length_of_sheet, c.if-buffer-sheet_length.true)) in
     record {
-      asks_in_order = subst (λ (n : ℕ). Refused n c.of-call-then-buffer-sheet-length.result) (sym (cond-true (is_whole (elements_of t)) _ 62 whole ∙ cond-false (fits 0 (sheet_text t) b) 0 61 past))
-          c.of-call-then-buffer-sheet-length.ensures.refused_without_text;
+      asks_in_order = subst (λ (n : ℕ). Refused n c.of_call-then-buffer-sheet_length.result) (sym (cond-true (is_whole (elements_of t)) _ 62 whole ∙ cond-false (fits 0 (sheet_text t) b) 0 61 past))
+          c.of_call-then-buffer-sheet_length.ensures.refused_without_text;
       sheet_written = refl;
       reads_back = tt;
       every_sheet_reads_back = reads_back;
@@ -53,32 +53,32 @@ begin_granted name n b es same named room =
     both_yes (is_name n) (fits 0 (beginning n) b) 63 61 (ap is_name same ∙ named)
     (le-leb (0 + length (beginning n)) (length b) (omega (arith, ap length same, begin_length n, sheet_length name es)))
 
-pub returns-in-err-begun : goal.returns-in-err-begun
-returns-in-err-begun c =
+pub returns-in_err-begun : goal.returns-in_err-begun
+returns-in_err-begun c =
     let t = c.args.test.now in
     let b = c.args.buffer.now in
-    let n = c.as-bytes.result.now in
-    let same : n ≡ name_of t = c.as-bytes.ensures.letters ∙ c.name-name.ensures.its_name in
-    let room : length (sheet_text t) ≤ length b = omega (arith, c.sheet-length.ensures.length_of_sheet, c.if-buffer-sheet-length.false) in
-    absurd (refused_not_0 _ _ c.in-err-begun.ensures.asks_in_order (begin_granted (name_of t) n b (elements_of t) same t.name.allowed room))
+    let n = c.as_bytes.result.now in
+    let same : n ≡ name_of t = c.as_bytes.ensures.letters ∙ c.name-name.ensures.its_name in
+    let room : length (sheet_text t) ≤ length b = omega (arith, c.sheet_length.ensures.length_of_sheet, c.if-buffer-sheet_length.false) in
+    absurd (refused_not_0 _ _ c.in_err-begun.ensures.asks_in_order (begin_granted (name_of t) n b (elements_of t) same t.name.allowed room))
 
-pub write-elements-filled-requires : goal.write-elements-filled-requires
-write-elements-filled-requires c =
+pub write_elements-filled-requires : goal.write_elements-filled-requires
+write_elements-filled-requires c =
     let t = c.args.test.now in
     let b = c.args.buffer.now in
     let es = c.elements.result.now in
     let are : map meant es ≡ elements_of t = c.elements.ensures.all_elements in
-    let begun = c.in-ok-begun.ensures.sheet_begun in
-    let same : c.as-bytes.result.now ≡ name_of t = c.as-bytes.ensures.letters ∙ c.name-name.ensures.its_name in
-    let parts = whole_parts (elements_of t) (sym c.if-not-is-whole.ensures.decides_whole) in
-    let room : length (sheet_text t) ≤ length b = omega (arith, c.sheet-length.ensures.length_of_sheet, c.if-buffer-sheet-length.false) in
+    let begun = c.in_ok-begun.ensures.sheet_begun in
+    let same : c.as_bytes.result.now ≡ name_of t = c.as_bytes.ensures.letters ∙ c.name-name.ensures.its_name in
+    let parts = whole_parts (elements_of t) (sym c.if-not-is_whole.ensures.decides_whole) in
+    let room : length (sheet_text t) ≤ length b = omega (arith, c.sheet_length.ensures.length_of_sheet, c.if-buffer-sheet_length.false) in
     record {
       few_elements = omega (arith, ap (λ s. s.elements) begun.0, parts.1, ap length are, length-map es meant);
       each_filled = ap (every is_filled) are ∙ parts.2;
       room = omega (
         arith,
         ap (λ s. s.at) begun.0,
-        begin_length c.as-bytes.result.now,
+        begin_length c.as_bytes.result.now,
         ap length same,
         ap (λ xs. length (flat_map element_line xs)) are,
         sheet_length (name_of t) (elements_of t),
@@ -92,24 +92,24 @@ unreachable-requires c =
     let b = c.args.buffer.now in
     let es = c.elements.result.now in
     let are : map meant es ≡ elements_of t = c.elements.ensures.all_elements in
-    let begun = c.in-ok-begun.ensures.sheet_begun in
-    let same : c.as-bytes.result.now ≡ name_of t = c.as-bytes.ensures.letters ∙ c.name-name.ensures.its_name in
-    let parts = whole_parts (elements_of t) (sym c.if-not-is-whole.ensures.decides_whole) in
-    let room : length (sheet_text t) ≤ length b = omega (arith, c.sheet-length.ensures.length_of_sheet, c.if-buffer-sheet-length.false) in
-    let s = c.write-elements-filled.result in
-    let cur = c.write-elements-filled.new.buffer in
-    let after = c.write-elements-filled.ensures.state_after in
+    let begun = c.in_ok-begun.ensures.sheet_begun in
+    let same : c.as_bytes.result.now ≡ name_of t = c.as_bytes.ensures.letters ∙ c.name-name.ensures.its_name in
+    let parts = whole_parts (elements_of t) (sym c.if-not-is_whole.ensures.decides_whole) in
+    let room : length (sheet_text t) ≤ length b = omega (arith, c.sheet_length.ensures.length_of_sheet, c.if-buffer-sheet_length.false) in
+    let s = c.write_elements-filled.result in
+    let cur = c.write_elements-filled.new.buffer in
+    let after = c.write_elements-filled.ensures.state_after in
     let fit : s.at + length ending ≤ length cur =
     omega (
       arith,
       ap (λ s. s.at) after,
       ap (λ s. s.at) begun.0,
-      begin_length c.as-bytes.result.now,
+      begin_length c.as_bytes.result.now,
       ap length same,
       ap (λ xs. length (flat_map element_line xs)) are,
       sheet_length (name_of t) (elements_of t),
       c.begin.auto.buffer,
-      c.write-elements-filled.auto.buffer,
+      c.write_elements-filled.auto.buffer,
     ) in
     let some : 0 < s.elements = omega (arith, ap (λ s. s.elements) after, ap (λ s. s.elements) begun.0, parts.0, ap length are, length-map es meant) in
     refused_not_0 _ _ c.in-Err.ensures.asks_in_order
@@ -119,23 +119,23 @@ pub returns : goal.returns
 returns c =
     let t = c.args.test.now in
     let b = c.args.buffer.now in
-    let n = c.as-bytes.result.now in
+    let n = c.as_bytes.result.now in
     let x = beginning n in
     let are : map meant c.elements.result.now ≡ elements_of t = c.elements.ensures.all_elements in
     let y = flat_map element_line (map meant c.elements.result.now) in
-    let begun = c.in-ok-begun.ensures.sheet_begun in
-    let filled = c.write-elements-filled.ensures in
+    let begun = c.in_ok-begun.ensures.sheet_begun in
+    let filled = c.write_elements-filled.ensures in
     let ended = c.in-Ok.ensures.ending_written in
-    let same : n ≡ name_of t = c.as-bytes.ensures.letters ∙ c.name-name.ensures.its_name in
-    let whole : is_whole (elements_of t) ≡ true = sym c.if-not-is-whole.ensures.decides_whole in
-    let room : length (sheet_text t) ≤ length b = omega (arith, c.sheet-length.ensures.length_of_sheet, c.if-buffer-sheet-length.false) in
+    let same : n ≡ name_of t = c.as_bytes.ensures.letters ∙ c.name-name.ensures.its_name in
+    let whole : is_whole (elements_of t) ≡ true = sym c.if-not-is_whole.ensures.decides_whole in
+    let room : length (sheet_text t) ≤ length b = omega (arith, c.sheet_length.ensures.length_of_sheet, c.if-buffer-sheet_length.false) in
     let long = sheet_length (name_of t) (elements_of t) in
     let short = begin_length n in
     let names = ap length same in
     let lines = ap (λ xs. length (flat_map element_line xs)) are in
-    let place : c.in-ok-begun.begun.at ≡ 0 + length x = omega (arith, ap (λ s. s.at) begun.0) in
-    let first : Stands b 0 x c.in-ok-begun.begun.at c.begin.new.buffer = record { ends = place; text = begun.1 } in
-    let second = stands_more b 0 x y _ c.write-elements-filled.result.at _ _ first filled.lines_written (ap (λ s. s.at) filled.state_after) (omega arith) in
+    let place : c.in_ok-begun.begun.at ≡ 0 + length x = omega (arith, ap (λ s. s.at) begun.0) in
+    let first : Stands b 0 x c.in_ok-begun.begun.at c.begin.new.buffer = record { ends = place; text = begun.1 } in
+    let second = stands_more b 0 x y _ c.write_elements-filled.result.at _ _ first filled.lines_written (ap (λ s. s.at) filled.state_after) (omega arith) in
     let third = stands_more b 0 (x ++ y) ending _ c.in-Ok.length _ _ second ended.1 ended.0 (omega (arith, length-append x y)) in
     let text : (x ++ y) ++ ending ≡ sheet_text t = append_assoc x y ending ∙ (λ j. sheet (same j) (are j)) in
     let count : c.in-Ok.length ≡ length (sheet_text t) = omega (arith, third.ends, ap length text) in
@@ -150,11 +150,11 @@ returns c =
       every_list_of_pieces_reads_back = pieces_read_back;
     }
 
-pub returns-then-not-is-whole : goal.returns-then-not-is-whole
-returns-then-not-is-whole c =
+pub returns-then-not-is_whole : goal.returns-then-not-is_whole
+returns-then-not-is_whole c =
     let t = c.args.test.now in
     record {
-      asks_in_order = subst (λ (n : ℕ). Refused n c.of-call.result) (sym (cond-false (is_whole (elements_of t)) _ 62 (sym c.if-not-is-whole.ensures.decides_whole))) c.of-call.ensures.refused_without_text;
+      asks_in_order = subst (λ (n : ℕ). Refused n c.of_call.result) (sym (cond-false (is_whole (elements_of t)) _ 62 (sym c.if-not-is_whole.ensures.decides_whole))) c.of_call.ensures.refused_without_text;
       sheet_written = refl;
       reads_back = tt;
       every_sheet_reads_back = reads_back;

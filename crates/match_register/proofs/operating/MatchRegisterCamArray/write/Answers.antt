@@ -18,7 +18,7 @@ returns c =
     let p = c.args.pattern in
     let m = c.args.mask in
     let fits : m < 2 ^ 64 = search rules in
-    let counted = c.one-more-self.ensures.next in
+    let counted = c.one_more-self.ensures.next in
     elim c.if-word-eq0.branch [
       | then-word-eq0 w ↦
           let z : a ≡ 0 = w.if-word-eq0.true in
