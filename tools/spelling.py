@@ -2,7 +2,8 @@
 """Spells the definitions and lemmas of this repository as today's Rattle does.
 
 A definition, a lemma, a field or a constructor of specs/ and proofs/ is in snake case, a fact or another type in upper
-camel case. Functions of src/ keep their names, and so do the goals that rt names. usage: tools/spelling.py [--list]
+camel case. In a clause, a ghost member stands behind its bound's parameter. Functions of src/ keep their names, and so
+do the goals that rt names. usage: tools/spelling.py [--list]
 in the top folder, once, after the port's own script. --list prints the names and changes nothing.
 """
 import glob
@@ -87,6 +88,15 @@ def swap(text, names, fields):
     return pattern.sub(one, text)
 
 
+def with_bounds(text):
+    """Clauses name a ghost member by its bound: C.build x for build x. The traits themselves do not."""
+    lines = text.split("\n")
+    for at, line in enumerate(lines):
+        if re.match(r"\s*(ensures|requires) ", line):
+            lines[at] = re.sub(r"(?<![\w.])(build|state|meaning)(?= [a-z])", r"C.\1", line)
+    return "\n".join(lines)
+
+
 def main():
     antt = sorted(glob.glob("crates/*/specs/**/*.antt", recursive=True) + glob.glob("crates/*/proofs/**/*.antt", recursive=True))
     code = sorted(glob.glob("crates/*/src/**/*.rt", recursive=True))
@@ -114,6 +124,8 @@ def main():
             goals = set(re.findall(r":\s*goal\.([^\s]+)", old))
             table = {n: v for n, v in table.items() if n not in goals}
         new = swap(old, table, fields)
+        if path in code and not re.search(r"^pub trait ", old, re.M):
+            new = with_bounds(new)
         if new != old:
             open(path, "w", encoding="utf-8").write(new)
     for path in pages:

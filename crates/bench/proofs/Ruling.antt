@@ -1,13 +1,13 @@
 -- The rules hold of a new bench, and each call keeps them.
-use Rattle.std.proofs.Common.{◌≡◌, ℕ, zero, suc, ◌+◌, ◌-◌, ◌*◌, ◌^◌, ◌<◌, ◌≤◌, min, max, Bool, true, false, cond, not, ◌&&◌, eqb, ltb, leb, ◌⊎◌, ◌↔◌, List, [], ◌∷◌, ◌++◌, length, get_or, take, drop, sym, refl, ap, ◌∙◌, subst, ap₂, inl, inr, ⊎_elim, mul-zero, zero-mul, mul-one, mul-add, arith, take-add}
+use Rattle.std.proofs.Common.{◌≡◌, ℕ, ◌+◌, ◌*◌, ◌<◌, ◌≤◌, true, false, not, eqb, ◌⊎◌, ◌↔◌, List, [], ◌++◌, length, get_or, take, drop, sym, refl, ap, ◌∙◌, subst, ap₂, inl, inr, ⊎_elim, mul-zero, zero-mul, mul-one, mul-add, arith, take-add}
 use Rattle.std.proofs.lemmas.List.{length-drop, length-take-le, drop-drop, take_all, take_more}
 use Rattle.std.proofs.lemmas.Nat.{mul-le}
-use Rattle.std.proofs.lemmas.Bool.{cases_eq, and_parts, eqb-true, eqb-false, leb-true, not-true, cond-true, cond-false, both_ways}
+use Rattle.std.proofs.lemmas.Bool.{cases_eq, eqb-true, eqb-false, not-true, cond-true, cond-false, both_ways}
 use Rattle.std.proofs.lemmas.Bool.Decides.{nat_tests as tells}
-use Rattle.cam.specs.Model.{Build, State, Steady, WellFormed, tally_cap, one_more}
+use Rattle.cam.specs.Model.{Build, State, Steady, WellFormed, tally_cap}
 use Rattle.cam.specs.Defects.{Sound}
 use Rattle.cam.specs.Operations.{operated, after_all}
-use Rattle.cam.specs.Refusals.{ask, first_no}
+use Rattle.cam.specs.Refusals.{first_no}
 use Rattle.cam.specs.declared.operation.Operation.{Operation}
 use Rattle.cam.specs.declared.operation.Operation.TheVariants.{Write, Read, Compare, Erase}
 use Rattle.cam.proofs.Below.{split}
@@ -18,7 +18,7 @@ use Rattle.march.specs.declared.step.Step.{Step as TestStep}
 use Rattle.march.proofs.Sweeps.{misses_within}
 use Rattle.mlt1.specs.declared.state.RunState.{RunState}
 use Rattle.mlt1.specs.Mlt1.{mlt1}
-use Rattle.mlt1.specs.Left.{left, at_start, plus, Went}
+use Rattle.mlt1.specs.Left.{left, at_start, Went}
 use Rattle.mlt1.proofs.Lefts.{left_start}
 use Rattle.mlt1.proofs.Lengths.{length_is}
 use Rattle.mlt1.proofs.Wents.{went_tally}
@@ -31,7 +31,7 @@ use Rattle.bench.specs.declared.books.Finding.TheVariants.{Open, Sound as FoundS
 use Rattle.bench.specs.declared.calls.Call.{Call}
 use Rattle.bench.specs.declared.calls.Call.TheVariants.{ByHand, Start, Step, Close, Quit, Chart, Finding as AskFinding}
 use Rattle.bench.specs.Books.{finding_number, finding_count, more, new_books, handled, started, with_run, found, closed, stopped, charted}
-use Rattle.bench.specs.Questions.{limit, run_length, chart_length, hand_questions, start_questions, step_questions, close_questions, quit_questions, chart_questions}
+use Rattle.bench.specs.Questions.{limit, run_length, chart_length, hand_questions, start_questions, step_questions, close_questions, chart_questions}
 use Rattle.bench.specs.Calls.{Desk, desk, Performs, Performed, none, then}
 use Rattle.bench.specs.Rules.{Rules}
 

@@ -1,11 +1,11 @@
 -- A whole run on a bench: every step of the schedule is done, and the close is granted.
-use Rattle.std.proofs.Common.{◌≡◌, ℕ, ◌+◌, ◌*◌, ◌^◌, ◌<◌, ◌≤◌, min, Bool, true, false, cond, not, eqb, ◌↔◌, List, [], ◌∷◌, length, Ok, Err, Result, sym, refl, ap, ◌∙◌, subst, ap₂, ⊎_elim, arith, MatchResult}
+use Rattle.std.proofs.Common.{◌≡◌, ℕ, ◌+◌, ◌*◌, ◌≤◌, min, true, false, not, eqb, ◌↔◌, List, length, Ok, Err, Result, sym, refl, ap, ◌∙◌, subst, ap₂, ⊎_elim, arith, MatchResult}
 use Rattle.std.proofs.lemmas.Bool.{eq-eqb, le-leb, cond-true, and_from}
 use Rattle.std.proofs.lemmas.Bool.Decides.{nat_tests as tells}
 use Rattle.cam.specs.declared.fault.Fault.{Fault}
 use Rattle.cam.specs.Defects.{Sound}
 use Rattle.cam.specs.Model.{Build, State, WellFormed, tally_cap}
-use Rattle.cam.specs.Refusals.{Question, Asks, first_no, Refused}
+use Rattle.cam.specs.Refusals.{Question, Asks, first_no}
 use Rattle.cam.proofs.Asking.{refused_not_0}
 use Rattle.march.specs.Tests.{schedule, after, misses}
 use Rattle.march.proofs.Sweeps.{after_tally}
@@ -15,9 +15,7 @@ use Rattle.mlt1.specs.Mlt1.{mlt1}
 use Rattle.mlt1.proofs.Lefts.{left_start}
 use Rattle.mlt1.proofs.Lengths.{length_is}
 use Rattle.mlt1.proofs.Wents.{went_whole}
-use Rattle.mlt1.proofs.Separating.{separates}
 use Rattle.bench.specs.declared.books.Books.{Books}
-use Rattle.bench.specs.declared.books.Finding.{Finding}
 use Rattle.bench.specs.Books.{started, with_run, closed, found, finding_number, ran_whole}
 use Rattle.bench.specs.Questions.{limit, run_length, chart_length, step_questions, close_questions, chart_questions}
 use Rattle.bench.specs.Judging.{judge_questions}

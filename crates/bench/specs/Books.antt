@@ -1,5 +1,5 @@
 -- What each granted call makes of the books of a bench.
-use Rattle.std.specs.Prelude.{ℕ, ◌+◌, ◌-◌, ◌^◌, min, Bool, true, false, cond, ◌==◌}
+use Rattle.std.specs.Prelude.{ℕ, ◌+◌, ◌-◌, ◌^◌, min, true, false, cond, ◌==◌}
 use Rattle.mlt1.specs.declared.state.RunState.{RunState}
 use Rattle.mlt1.specs.Left.{at_start}
 use Rattle.bench.specs.declared.books.Books.{Books}

@@ -8,7 +8,7 @@ use Rattle.chart.specs.Chart.{chart_operations, blemishes}
 use Rattle.bench.specs.declared.books.Books.{Books}
 use Rattle.bench.specs.declared.calls.Call.{Call}
 use Rattle.bench.specs.declared.calls.Call.TheVariants.{ByHand, Start, Step, Close, Quit, Chart, Finding}
-use Rattle.bench.specs.Books.{new_books, handled, started, with_run, closed, stopped, charted}
+use Rattle.bench.specs.Books.{handled, started, with_run, closed, stopped, charted}
 use Rattle.bench.specs.Questions.{hand_questions, start_questions, step_questions, close_questions, quit_questions, chart_questions}
 
 -- what of a bench can change: the state of its array, and its books

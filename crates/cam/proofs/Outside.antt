@@ -1,5 +1,5 @@
 -- An operation on a word that the array does not have only counts; and the tally after one more operation.
-use Rattle.std.proofs.Common.{◌≡◌, ℕ, ◌≤◌, min, Bool, cond, ◌&&◌, eqb, ltb, ap, ◌∙◌, ap₂, arith}
+use Rattle.std.proofs.Common.{◌≡◌, ℕ, ◌≤◌, min, cond, ◌&&◌, eqb, ltb, ap, ap₂, arith}
 use mathlib.Core.Path.{fun_ext}
 use Rattle.std.proofs.lemmas.Bool.{eqb-true, le-ltb, cond-false, and_left, and_right}
 use Rattle.cam.specs.Model.{Build, State, written, erased, counted, one_more, tally_cap}

@@ -1,12 +1,11 @@
 -- No operation moves an sa0 cell, an sa1 cell or a stuck mark.
-use Rattle.std.proofs.Common.{◌≡◌, ℕ, Bool, true, false, cond, not, ◌&&◌, ltb, List, [], ◌∷◌, refl, ap, ◌∙◌}
+use Rattle.std.proofs.Common.{◌≡◌, ℕ, Bool, true, false, cond, not, ◌&&◌, ltb, [], ◌∷◌, refl, ap, ◌∙◌}
 use Rattle.std.proofs.lemmas.Bool.{cond-true}
 use Rattle.cam.specs.declared.defect.Storage.{Storage}
-use Rattle.cam.specs.declared.defect.Storage.TheVariants.{Sa0, Sa1}
 use Rattle.cam.specs.declared.operation.Operation.{Operation}
 use Rattle.cam.specs.declared.operation.Operation.TheVariants.{Write, Read, Compare, Erase}
 use Rattle.cam.specs.Model.{Build, State, put, mark_after_write, here, bit, Steady}
-use Rattle.cam.specs.Operations.{operated, after_all, SteadinessStays}
+use Rattle.cam.specs.Operations.{operated, SteadinessStays}
 
 -- a cell with a storage that puts v whatever is written, and that holds v
 bit_stays : (t u : Bool) (s : Storage) (h b v : Bool) → put s h b ≡ v → h ≡ v → cond t (cond u (put s h b) h) h ≡ v

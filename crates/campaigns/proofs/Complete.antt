@@ -18,7 +18,6 @@ use Rattle.mlt1.proofs.Separating.{separates}
 use Rattle.campaigns.specs.declared.faults.CampaignFault.{CampaignFault}
 use Rattle.campaigns.specs.declared.faults.CampaignFault.TheVariants.{Comparison, Storage, StuckMark}
 use Rattle.campaigns.specs.declared.row.Row.{Row}
-use Rattle.campaigns.specs.Tenths.{tenths}
 use Rattle.campaigns.specs.Faults.{campaign_faults, places_in, wrong_pairs}
 use Rattle.campaigns.specs.Campaigns.{place_at, places, faulty_build, faulty_state, detected_at, count_of, row_from, row_of, full_row, DetectsAll}
 use Rattle.campaigns.proofs.Tenths.{tenths_all}

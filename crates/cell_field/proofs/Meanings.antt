@@ -1,10 +1,9 @@
 -- Operations on a field's cells and marks, as the model sees them.
 use Rattle.std.proofs.Common.{◌≡◌, ℕ, ◌+◌, ◌-◌, ◌*◌, ◌<◌, ◌≤◌, min, Bool, true, false, cond, not, ◌&&◌, ◌||◌, eqb, ltb, leb, List, [], ◌∷◌, map, length, get_or, set, replicate, sym, refl, ap, ◌∙◌, subst, ap₂, arith}
-use mathlib.Core.Path.{fun_ext}
 use Rattle.std.proofs.lemmas.List.{get_or-set_same, get_or-set_other, get_or-replicate, get_or_past, length-map, length-replicate}
-use Rattle.std.proofs.lemmas.Bool.{eq-eqb, ne_eqb, eqb-true, eqb-false, lt-ltb, le-ltb, ltb-true, ltb-false, cond-true, cond-false, and_from, and_left, and_right, and_parts, leb-true}
+use Rattle.std.proofs.lemmas.Bool.{eqb-true, eqb-false, lt-ltb, le-ltb, ltb-true, ltb-false, cond-true, cond-false, and_from, and_left, and_right, and_parts, leb-true}
 use Rattle.cam.specs.Bits.{bit}
-use Rattle.cam.specs.Model.{Build, State, written, written_bit, erased, counted, here, put, mark_after_write, one_more, tally_cap, read_word, hit, value, word_matches, all_below, any_below, agrees}
+use Rattle.cam.specs.Model.{written, written_bit, erased, counted, put, mark_after_write, one_more, tally_cap, read_word, hit, value, any_below, agrees}
 use Rattle.cam.specs.Defects.{has_word, with_stuck_mark, unmarked}
 use Rattle.cam.specs.Refusals.{ask, first_no}
 use Rattle.cam.proofs.Below.{split, any_same, all_same}
@@ -12,7 +11,7 @@ use Rattle.cam.proofs.Outside.{tally_more}
 use Rattle.cam.proofs.Values.{value_same}
 use Rattle.cells.specs.Meaning.{CellMeaning, taken}
 use Rattle.cell_field.specs.declared.mark.Mark.{Mark}
-use Rattle.cell_field.specs.declared.mark.Mark.TheVariants.{Clear, Stuck}
+use Rattle.cell_field.specs.declared.mark.Mark.TheVariants.{Clear}
 use Rattle.cell_field.specs.Field.{is_set, is_stuck, blank_cell, fits, used_words, used_bits, cell_at, mark_at, build_from, state_from, field_build, field_state, at, wrote_cell, wrote_at, row_matches}
 use Rattle.cell_field.proofs.Places.{wrote_inside, wrote_before, wrote_after, row_within}
 

@@ -1,13 +1,12 @@
 -- Cells side by side: one more of them read, compared or written.
-use Rattle.std.proofs.Common.{◌≡◌, ℕ, suc, ◌+◌, ◌-◌, ◌*◌, ◌%◌, ◌^◌, ◌<◌, ◌≤◌, Bool, true, false, cond, ◌&&◌, ◌||◌, eqb, ltb, leb, List, map, length, get_or, set, sym, refl, ap, ◌∙◌, mul-le-mul_right, add-mul, pow-suc, add-one, arith, pow_mono}
+use Rattle.std.proofs.Common.{◌≡◌, ℕ, suc, ◌+◌, ◌-◌, ◌*◌, ◌%◌, ◌^◌, ◌<◌, ◌≤◌, Bool, true, false, cond, ◌&&◌, eqb, ltb, leb, List, map, length, get_or, set, sym, ap, ◌∙◌, mul-le-mul_right, add-mul, pow-suc, add-one, arith, pow_mono}
 use Rattle.std.proofs.lemmas.List.{get_or-map, map-set, get_or-set_same, get_or-set_other, length-map}
 use Rattle.std.proofs.lemmas.Bool.{eqb-true, eqb-false, ltb-true, ltb-false, cond-true, cond-false, lt-ltb, le-ltb, le-leb, lt-leb, both_ways, and_from, and_left, and_right}
-use Rattle.cam.specs.Bits.{bit}
-use Rattle.cam.specs.Model.{value, all_below, agrees}
+use Rattle.cam.specs.Model.{value, all_below}
 use Rattle.cam.proofs.Below.{split, each_below}
 use Rattle.cam.proofs.BitLaws.{shl_one}
 use Rattle.cam.proofs.Patterns.{value_below}
-use Rattle.cells.specs.Meaning.{CellMeaning, taken}
+use Rattle.cells.specs.Meaning.{CellMeaning}
 use Rattle.cell_field.specs.Field.{blank_cell, at, wrote_cell, wrote_at}
 
 module _ {X : Type 0} (f : X → CellMeaning) where

@@ -1,9 +1,9 @@
 -- Every cell field is well formed: its cells are steady, and a stuck mark is not set.
-use Rattle.std.specs.Prelude.{◌≡◌, ℕ, zero, suc, ◌+◌, ◌*◌, ◌<◌, ◌≤◌, min, Bool, true, false, cond, ◌&&◌, List, [], ◌∷◌, map, length, nat_le, nat_lt, slice_index_or, refl}
-use Rattle.std.proofs.Common.{sym, ap, subst, ◌∙◌, arith}
+use Rattle.std.specs.Prelude.{◌≡◌, ℕ, zero, suc, ◌+◌, ◌*◌, ◌≤◌, Bool, true, false, cond, ◌&&◌, List, [], ◌∷◌, map, length, nat_le, nat_lt, slice_index_or, refl}
+use Rattle.std.proofs.Common.{sym, ap, arith}
 use Rattle.std.proofs.lemmas.Bool.{true≢false, leb-true, and_parts}
 use Rattle.cam.specs.Defects.{is_good}
-use Rattle.cam.specs.Model.{WellFormed, Steady, tally_cap}
+use Rattle.cam.specs.Model.{WellFormed}
 use Rattle.cells.specs.Meaning.{CellMeaning, SteadyCell}
 use Rattle.cell_field.specs.declared.mark.Mark.{Mark}
 use Rattle.cell_field.specs.declared.mark.Mark.TheVariants.{Clear, Set, Stuck}

@@ -1,5 +1,5 @@
 -- The wrong set of a transistor cell, by going through all cases.
-use Rattle.std.proofs.Common.{◌≡◌, Bool, true, false, not, ◌&&◌, ◌↔◌, sym, refl, ap, ◌∙◌}
+use Rattle.std.proofs.Common.{◌≡◌, Bool, true, false, not, ◌&&◌, sym, refl, ap, ◌∙◌}
 use mathlib.Core.Bool.{beq}
 use Rattle.std.proofs.lemmas.Bool.{true≢false, and_parts, and_from, not-true, or_parts, or_from}
 use Rattle.cam.specs.Defects.{in_set, some_wrong}
@@ -7,7 +7,7 @@ use Rattle.cells.specs.declared.transistor.Transistor.{Transistor}
 use Rattle.cells.specs.declared.transistor.Transistor.TheVariants.{Good, StuckOpen, StuckOn}
 use Rattle.cells.specs.declared.transistor.Latch.TheVariants as latch
 use Rattle.cells.specs.declared.transistor.TransistorCell.{TransistorCell}
-use Rattle.cells.specs.Transistors.{mismatches, wrong_by, AllGood, EmptyExactlyWhenGood}
+use Rattle.cells.specs.Transistors.{mismatches, wrong_by, EmptyExactlyWhenGood}
 
 same_true : (x : Bool) → beq x true ≡ x
 same_true true = refl

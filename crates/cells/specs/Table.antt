@@ -1,5 +1,4 @@
 -- What a table cell means.
-use Rattle.std.specs.Prelude.{◌≡◌}
 use Rattle.std.proofs.Common.{ap}
 use Rattle.cam.specs.Defects.{in_set, settled_bit}
 use Rattle.cells.specs.declared.table.TableCell.{TableCell}

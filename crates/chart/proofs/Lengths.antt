@@ -1,11 +1,11 @@
 -- How many operations a chart takes.
-use Rattle.std.proofs.Common.{◌≡◌, ℕ, ◌+◌, ◌*◌, Bool, true, false, List, [], ◌∷◌, ◌++◌, length, sym, refl, ap, ◌∙◌, mul_comm, add-mul, arith, length-append}
+use Rattle.std.proofs.Common.{◌≡◌, ℕ, ◌+◌, ◌*◌, Bool, true, false, List, [], ◌∷◌, ◌++◌, length, refl, ◌∙◌, mul_comm, add-mul, arith, length-append}
 use Rattle.cam.specs.declared.operation.Operation.TheVariants.{Read, Erase}
 use Rattle.cam.specs.declared.operation.Operation.{Operation}
 use Rattle.cam.specs.Machine.{upward}
 use Rattle.march.specs.Tests.{word}
 use Rattle.march.proofs.Lengths.{upward_length}
-use Rattle.chart.specs.Chart.{on_each_column, writing, word_operations, chart_operations, ChartLength}
+use Rattle.chart.specs.Chart.{on_each_column, writing, word_operations, ChartLength}
 
 columns_length : (W : ℕ) (b : Bool) → length (on_each_column W b) ≡ W
 columns_length W b = upward_length 1 W _ (λ j. refl) ∙ omega arith

@@ -1,13 +1,12 @@
 -- A word's visit: the answers that it gives, and the operations that it does.
-use Rattle.std.proofs.Common.{◌≡◌, ℕ, ◌<◌, ◌≤◌, Bool, true, false, List, [], ◌∷◌, ◌++◌, sym, refl, ap, ◌∙◌, subst, ap₂, append_assoc}
+use Rattle.std.proofs.Common.{◌≡◌, ℕ, ◌<◌, Bool, true, false, List, [], ◌∷◌, sym, ap, ◌∙◌, subst, ap₂, append_assoc}
 use Rattle.cam.specs.declared.operation.Operation.{Operation}
-use Rattle.cam.specs.declared.operation.Operation.TheVariants.{Write, Read, Compare, Erase}
+use Rattle.cam.specs.declared.operation.Operation.TheVariants.{Read, Compare, Erase}
 use Rattle.cam.specs.Model.{Build, State, written, erased, counted, read_word, hit, bit}
 use Rattle.cam.specs.Operations.{after_all}
 use Rattle.cam.specs.Patterns.{equal_bits, all_but}
 use Rattle.cam.proofs.Operating.{Did, did_then}
 use Rattle.march.specs.Tests.{word}
-use Rattle.chart.specs.declared.answers.Answers.{Answers}
 use Rattle.chart.specs.Chart.{on_each_column, writing, word_operations, lowered, raised, Answered}
 
 -- the same bits and marks, whatever the tallies

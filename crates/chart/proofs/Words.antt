@@ -9,7 +9,7 @@ use Rattle.cam.specs.Patterns.{equal_bits, all_but}
 use Rattle.cam.proofs.Below.{split, some_below, all_true}
 use Rattle.cam.proofs.BitLaws.{bit_ones}
 use Rattle.cam.proofs.Patterns.{bit_but_here, bit_but_other, bit_equal, bit_value, agrees_at}
-use Rattle.cam.proofs.Writes.{wr, wr_here, wr_other, wr_mark_here, wr_mark_other}
+use Rattle.cam.proofs.Writes.{wr, wr_here, wr_mark_here, wr_mark_other}
 use Rattle.march.proofs.Masking.{only_one, all_fails}
 use Rattle.chart.specs.declared.answers.Answers.{Answers}
 use Rattle.chart.specs.Bytes.{low, high, byte_from, chart_byte, byte_of}

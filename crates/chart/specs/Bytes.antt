@@ -1,5 +1,5 @@
 -- The bytes of a chart: what they say of the defects, and how they follow from a word's answers.
-use Rattle.std.specs.Prelude.{ℕ, ◌+◌, Bool, true, false, cond, not, ◌&&◌, ◌||◌}
+use Rattle.std.specs.Prelude.{ℕ, ◌+◌, Bool, true, false, cond, not, ◌&&◌}
 use Rattle.cam.specs.Model.{Build, bit}
 use Rattle.cam.specs.declared.defect.Storage.{Storage}
 use Rattle.cam.specs.declared.defect.Storage.TheVariants.{Good, Sa0, Sa1, NoRise, NoFall}

@@ -1,5 +1,5 @@
 -- Worked examples. Each is small enough to be followed by hand.
-use Rattle.std.specs.Prelude.{◌≡◌, Bool, true, false, List, [], ◌∷◌, ℕ, length}
+use Rattle.std.specs.Prelude.{◌≡◌, Bool, true, false, ℕ, length}
 use Rattle.cam.specs.Model.{Build, State, written}
 use Rattle.cam.specs.Defects.{flawless, cleared, with_storage, with_pair, with_stuck_mark, is_pair}
 use Rattle.cam.specs.declared.defect.Storage.TheVariants.{Sa0, NoRise}

@@ -1,7 +1,6 @@
 -- How many steps the schedule of a test has.
-use Rattle.std.proofs.Common.{◌≡◌, ℕ, zero, suc, ◌+◌, ◌*◌, ◌≤◌, min, List, [], ◌∷◌, ◌++◌, map, length, refl, ◌∙◌, mul-zero, mul-suc, arith, length-append}
+use Rattle.std.proofs.Common.{◌≡◌, ℕ, zero, suc, ◌+◌, ◌*◌, ◌≤◌, min, List, [], ◌∷◌, length, refl, mul-zero, mul-suc, arith, length-append}
 use lib.ListN.{length-map}
-use Rattle.march.specs.declared.step.Step.{Step}
 use Rattle.std.proofs.lemmas.List.{length-take}
 use Rattle.march.specs.declared.element.Element.{Element as ElementRecord}
 use Rattle.march.specs.declared.element.Element.TheVariants.{Up, Down, Columns}

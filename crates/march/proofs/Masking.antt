@@ -1,5 +1,5 @@
 -- No other word can stand in for the one that is addressed.
-use Rattle.std.proofs.Common.{◌≡◌, ℕ, ◌<◌, Bool, true, false, ◌&&◌, eqb, sym, ap, ◌∙◌, subst}
+use Rattle.std.proofs.Common.{◌≡◌, ℕ, ◌<◌, Bool, true, false, eqb, ap, ◌∙◌}
 use Rattle.std.proofs.lemmas.Bool.{both_ways, eqb-true, eqb-false, and_parts, and_left, and_right}
 use Rattle.cam.specs.Model.{any_below, all_below}
 use Rattle.cam.proofs.Below.{split, any_none, each_below}

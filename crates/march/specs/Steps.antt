@@ -1,8 +1,8 @@
 -- A step: an operation with what is expected of its answer; when it misses.
-use Rattle.std.specs.Prelude.{ℕ, Bool, true, false, cond, not, ◌==◌}
+use Rattle.std.specs.Prelude.{Bool, true, false, not, ◌==◌}
 use Rattle.std.specs.Bool.{beq}
 use Rattle.cam.specs.Model.{Build, State}
-use Rattle.cam.specs.Operations.{operated, answered}
+use Rattle.cam.specs.Operations.{answered}
 use Rattle.cam.specs.declared.operation.Answer.{Answer}
 use Rattle.cam.specs.declared.operation.Answer.TheVariants as answer
 use Rattle.march.specs.declared.step.Expectation.{Expectation}

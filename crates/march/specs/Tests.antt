@@ -1,5 +1,5 @@
 -- Tests as lists of elements, their schedules, and what a schedule makes of an array.
-use Rattle.std.specs.Prelude.{ℕ, ◌-◌, Bool, cond, List, [], ◌∷◌, ◌++◌, map, None, Option, nat_lt}
+use Rattle.std.specs.Prelude.{ℕ, ◌-◌, cond, List, [], ◌∷◌, ◌++◌, map, None, Option, nat_lt}
 use Rattle.std.specs.List.{slice_get}
 use Rattle.cam.specs.Model.{Build, State}
 use Rattle.cam.specs.Patterns.{equal_bits, all_but}

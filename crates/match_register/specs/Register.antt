@@ -1,5 +1,5 @@
 -- What a match register means: its size and defects, its held bits and mark, and why it is well formed.
-use Rattle.std.specs.Prelude.{◌≡◌, ℕ, min, Bool, true, false, not, ◌&&◌, ◌==◌, nat_lt, refl}
+use Rattle.std.specs.Prelude.{min, Bool, false, not, ◌&&◌, ◌==◌, nat_lt}
 use Rattle.std.proofs.Common.{ap, arith}
 use Rattle.std.proofs.lemmas.Bool.{true≢false, and_parts, and_right}
 use Rattle.cam.specs.Bits.{bit}

@@ -1,14 +1,14 @@
 -- MLT-1 is a sweep that writes ones, and then two halves that are the same but for the bit and the order. Each half
 -- shows something under a condition that the other half meets.
-use Rattle.std.proofs.Common.{◌≡◌, ℕ, zero, suc, ◌+◌, ◌<◌, ◌≤◌, Bool, true, false, cond, not, ◌&&◌, ◌||◌, eqb, ltb, List, [], ◌∷◌, ◌++◌, map, sym, refl, ap, ◌∙◌, subst, true≢false, le_refl, arith}
+use Rattle.std.proofs.Common.{◌≡◌, ℕ, ◌+◌, ◌<◌, Bool, true, false, cond, not, ◌||◌, eqb, ltb, List, [], ◌∷◌, ◌++◌, map, sym, refl, ap, ◌∙◌, subst, true≢false, le_refl, arith}
 use mathlib.Core.Bool.{beq, false≢true}
-use Rattle.std.proofs.lemmas.Bool.{both_ways, not-true, eq-eqb, ne_eqb, eqb-true, eqb-false, lt-ltb, cond-true, cond-false, and_from, and_left, and_right, or_from, or_left, or_right}
+use Rattle.std.proofs.lemmas.Bool.{both_ways, not-true, eq-eqb, eqb-true, eqb-false, lt-ltb, cond-true, cond-false, and_from, and_left, and_right, or_from, or_left, or_right}
 use Rattle.cam.specs.declared.defect.Storage.{Storage}
 use Rattle.cam.specs.declared.defect.Storage.TheVariants.{Good, Sa0, Sa1, NoRise, NoFall}
-use Rattle.cam.specs.Model.{Build, State, put, mark_after_write, agrees, bit, here, written, read_word, matches, hit, value, any_below, all_below}
+use Rattle.cam.specs.Model.{Build, State, put, agrees, bit, here, read_word, matches, hit, value, all_below}
 use Rattle.cam.specs.Defects.{Sound}
 use Rattle.cam.specs.Patterns.{equal_bits, all_but}
-use Rattle.cam.proofs.Below.{split, none_below, any_none, some_below, all_true, each_below}
+use Rattle.cam.proofs.Below.{split, none_below, any_none, some_below, all_true}
 use Rattle.cam.proofs.BitLaws.{bit_zero}
 use Rattle.cam.proofs.Writes.{wr, wr_here, wr_other, wr_mark_here, wr_mark_other}
 use Rattle.cam.proofs.Patterns.{bit_but_here, bit_but_other, bit_equal, value_equal, equal_value, agrees_at}

@@ -1,11 +1,11 @@
 -- What is left of a list of elements, as a run moves through it.
-use Rattle.std.proofs.Common.{◌≡◌, ℕ, zero, suc, ◌+◌, ◌-◌, ◌<◌, ◌≤◌, Bool, true, false, cond, ltb, List, [], ◌∷◌, ◌++◌, length, drop, is_some, Some, None, Option, sym, refl, ap, ◌∙◌, ap₂, append_assoc, append-nil, add-one, arith}
+use Rattle.std.proofs.Common.{◌≡◌, ℕ, zero, suc, ◌+◌, ◌-◌, ◌<◌, ◌≤◌, true, ltb, List, [], ◌∷◌, ◌++◌, length, drop, is_some, Some, None, sym, refl, ap, ◌∙◌, append_assoc, append-nil, add-one, arith}
 use Rattle.std.specs.List.{slice_get}
 use Rattle.std.proofs.lemmas.Bool.{true≢false, lt-ltb, le-ltb, ltb-true, ltb-false, cond-true, cond-false}
 use Rattle.cam.proofs.Below.{split}
 use Rattle.march.specs.declared.step.Step.{Step}
 use Rattle.cam.specs.Machine.{upward}
-use Rattle.march.specs.Tests.{Element, visits, visit, step_at, steps_of, schedule}
+use Rattle.march.specs.Tests.{Element, visits, visit, step_at, schedule}
 use Rattle.march.proofs.Lengths.{per_visit, visit_length}
 use Rattle.mlt1.specs.Left.{from_on, rest_of, left_in}
 

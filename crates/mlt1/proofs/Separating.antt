@@ -1,5 +1,5 @@
 -- MLT-1 separates sound from faulty.
-use Rattle.std.proofs.Common.{◌≡◌, ℕ, ◌<◌, Bool, true, false, not, List, [], ◌∷◌, ◌++◌, map, sym, refl, ap, ◌∙◌, ap₂, le_refl}
+use Rattle.std.proofs.Common.{◌≡◌, ℕ, ◌<◌, true, false, List, [], ◌∷◌, ◌++◌, map, sym, refl, ap, ◌∙◌, ap₂, le_refl}
 use Rattle.cam.specs.Model.{Build, State, Steady}
 use Rattle.cam.specs.Defects.{Sound}
 use Rattle.march.specs.declared.step.Step.{Step}
@@ -7,7 +7,7 @@ use Rattle.march.specs.declared.element.TestOperation.TheVariants.{Write}
 use Rattle.cam.specs.Machine.{upward}
 use Rattle.march.specs.Tests.{at_word, schedule, after, misses}
 use Rattle.cam.proofs.Machine.{upward_reversed}
-use Rattle.march.proofs.Sweeps.{gather, passes, first_passes, then_passes, both_pass}
+use Rattle.march.proofs.Sweeps.{gather, passes, then_passes, both_pass}
 use Rattle.mlt1.specs.Mlt1.{mlt1}
 use Rattle.mlt1.specs.Separation.{Separates}
 use Rattle.mlt1.proofs.Halves.{turn, look, column, half, takes_good, half_takes, half_shows, half-passes, wr_is, wr_free, is_kept, AllGood, Free, Is, Uniform}

@@ -1,5 +1,5 @@
 -- Stretches of a run, one after the other.
-use Rattle.std.proofs.Common.{◌≡◌, ℕ, ◌+◌, ◌^◌, ◌<◌, ◌≤◌, min, false, ltb, List, [], ◌∷◌, ◌++◌, length, take, drop, sym, refl, ap, ◌∙◌, subst, ap₂, arith, take-add}
+use Rattle.std.proofs.Common.{◌≡◌, ℕ, ◌+◌, ◌^◌, ◌<◌, ◌≤◌, min, false, ltb, List, ◌++◌, length, take, drop, sym, refl, ap, ◌∙◌, subst, ap₂, arith, take-add}
 use Rattle.std.proofs.lemmas.List.{length-drop, length-take-le, drop-drop, take_all}
 use Rattle.std.proofs.lemmas.Bool.{ltb-false}
 use Rattle.cam.specs.Model.{Build, State, tally_cap}
@@ -9,7 +9,7 @@ use Rattle.cam.proofs.Machine.{after-++, misses-++}
 use Rattle.march.proofs.Sweeps.{after_tally, misses_within}
 use Rattle.mlt1.specs.declared.state.RunState.{RunState}
 use Rattle.mlt1.specs.Mlt1.{mlt1}
-use Rattle.mlt1.specs.Left.{left, plus, Went}
+use Rattle.mlt1.specs.Left.{left, Went}
 
 pub went_none : (B : Build) (s : RunState) (S : State) → Went B 0 s s S S
 went_none B s S =

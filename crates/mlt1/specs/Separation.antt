@@ -1,5 +1,5 @@
 -- What MLT-1 tells of an array.
-use Rattle.std.specs.Prelude.{◌≡◌, ℕ, ◌≤◌, ◌↔◌}
+use Rattle.std.specs.Prelude.{◌≡◌, ◌≤◌, ◌↔◌}
 use Rattle.cam.specs.Model.{Build, State, Steady}
 use Rattle.cam.specs.Defects.{Sound}
 use Rattle.march.specs.Tests.{schedule, misses}

@@ -1,5 +1,5 @@
 -- An array whose records are blank has no defect, bits 0 and marks clear.
-use Rattle.std.proofs.Common.{◌≡◌, ℕ, ◌<◌, ◌≤◌, Bool, true, false, cond, not, ◌&&◌, ◌||◌, ltb, List, ◌++◌, map, length, get_or, take, drop, refl, ap, ◌∙◌, arith}
+use Rattle.std.proofs.Common.{◌≡◌, ℕ, ◌<◌, ◌≤◌, Bool, true, false, cond, not, ◌&&◌, ◌||◌, ltb, List, map, length, take, drop, ap, ◌∙◌, arith}
 use mathlib.Core.Path.{fun_ext}
 use Rattle.std.proofs.lemmas.List.{get_or_append_left, length-map, length-take-le, get_or-map}
 use Rattle.std.proofs.lemmas.Bool.{and_right, ltb-true, cond-true, cond-false}

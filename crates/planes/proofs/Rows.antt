@@ -3,7 +3,7 @@
 use Rattle.std.proofs.Common.{◌≡◌, ℕ, ◌<◌, ◌≤◌, Bool, true, false, cond, not, ◌&&◌, ◌||◌, eqb, ltb, List, length, get_or, take, set, sym, refl, ap, ◌∙◌, ap₂, arith}
 use mathlib.Core.Path.{fun_ext}
 use Rattle.std.proofs.lemmas.List.{get_or-set_same, get_or-set_other, get_or_read, get_or-take, length-take-le}
-use Rattle.std.proofs.lemmas.Bool.{eq-eqb, ne_eqb, eqb-true, eqb-false, lt-ltb, le-ltb, cond-true, cond-false, and_left, and_right}
+use Rattle.std.proofs.lemmas.Bool.{eq-eqb, ne_eqb, eqb-true, eqb-false, lt-ltb, cond-true, cond-false, and_left}
 use Rattle.cam.specs.Model.{Build, State, written, erased, written_bit, mark_after_write, one_more, any_below, word_matches}
 use Rattle.cam.specs.Defects.{with_storage, settled, settled_bit, with_pair, is_pair, with_stuck_mark, unmarked}
 use Rattle.cam.specs.declared.defect.Storage.{Storage}

@@ -1,15 +1,15 @@
 -- Every plane array is well formed: by what its records mean, an sa0 cell holds 0, an sa1 cell holds 1, and a stuck
 -- mark is clear.
-use Rattle.std.specs.Prelude.{◌≡◌, ℕ, ◌<◌, Bool, true, false, cond, not, ◌&&◌, ◌||◌, vec_items, nat_lt, refl}
+use Rattle.std.specs.Prelude.{◌≡◌, ℕ, ◌<◌, Bool, true, false, cond, not, ◌||◌, vec_items, nat_lt, refl}
 use Rattle.std.proofs.Common.{ap}
 use Rattle.std.proofs.lemmas.Bool.{true≢false, and_from, and_right, or_right, lt-ltb}
 use Rattle.cam.specs.Bits.{bit}
-use Rattle.cam.specs.Model.{WellFormed, Steady}
+use Rattle.cam.specs.Model.{WellFormed}
 use Rattle.cam.specs.declared.defect.Storage.{Storage}
 use Rattle.cam.specs.declared.defect.Storage.TheVariants.{Good, Sa0, Sa1, NoRise, NoFall}
 use Rattle.planes.specs.declared.word.WordRecord.{WordRecord}
 use Rattle.planes.specs.declared.array.PlaneArray.{PlaneArray}
-use Rattle.planes.specs.Word.{storage_of, shown, mark_of}
+use Rattle.planes.specs.Word.{storage_of, shown}
 use Rattle.planes.specs.Planes.{record_at, build_of, state_of}
 
 is_sa0 : Storage → Bool

@@ -1,5 +1,5 @@
 -- What the planes of a word mean.
-use Rattle.std.specs.Prelude.{ℕ, Bool, true, false, cond, not, ◌&&◌, ◌||◌, nat_lt}
+use Rattle.std.specs.Prelude.{ℕ, Bool, false, cond, not, ◌&&◌, ◌||◌, nat_lt}
 use Rattle.cam.specs.Bits.{bit}
 use Rattle.cam.specs.declared.defect.Storage.{Storage}
 use Rattle.cam.specs.declared.defect.Storage.TheVariants.{Good, Sa0, Sa1, NoRise, NoFall}

@@ -1,10 +1,9 @@
 -- A sheet written piece by piece is the sheet of its elements.
-use Rattle.std.proofs.Common.{◌≡◌, ℕ, ◌+◌, ◌-◌, ◌<◌, ◌≤◌, Bool, true, false, cond, ◌&&◌, ltb, leb, List, [], ◌∷◌, ◌++◌, map, length, take, drop, sym, refl, ap, ◌∙◌, subst, ap₂, append_assoc, append-nil, arith, length-append, length-drop}
+use Rattle.std.proofs.Common.{◌≡◌, ℕ, ◌+◌, ◌<◌, ◌≤◌, Bool, true, false, cond, ltb, List, [], ◌∷◌, ◌++◌, length, take, drop, sym, refl, ap, ◌∙◌, subst, ap₂, append_assoc, append-nil, arith, length-append, length-drop}
 use Rattle.std.specs.List.{flat_map}
 use Rattle.std.proofs.lemmas.List.{length_push, map_push}
 use Rattle.std.proofs.lemmas.Bool.{leb-true, ltb-true, le-leb, and_parts, and_from}
 use Rattle.cam.specs.Buffers.{over}
-use Rattle.cam.specs.Refusals.{ask, first_no}
 use Rattle.cam.proofs.Buffers.{over_over}
 use Rattle.march.specs.declared.element.TestOperation.{TestOperation}
 use Rattle.march.specs.declared.element.TestOperation.TheVariants.{Write, Read, Compare, Erase}
@@ -17,8 +16,8 @@ use Rattle.march.specs.Building.{opened, order_of, operations_of, allows, longer
 use Rattle.sheet_writer.specs.declared.states.BetweenElements.{BetweenElements}
 use Rattle.sheet_writer.specs.declared.states.InsideElement.{InsideElement}
 use Rattle.sheet_writer.specs.Sheets.{beginning, heading, operation_piece, ending, element_line, sheet}
-use Rattle.sheet_writer.specs.Writing.{fits, end_questions}
-use Rattle.test_sheets.specs.Pieces.{Standing, between_elements, in_element, Written, begun, opens, writes, closes, Ends, PiecesReadBack}
+use Rattle.sheet_writer.specs.Writing.{fits}
+use Rattle.test_sheets.specs.Pieces.{Standing, between_elements, in_element, Written, begun, opens, writes, closes, PiecesReadBack}
 use Rattle.test_sheets.proofs.Joins.{joined_append}
 use Rattle.test_sheets.proofs.Elements.{length_longer}
 use Rattle.test_sheets.proofs.Trips.{reads_back}

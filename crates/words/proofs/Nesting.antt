@@ -1,7 +1,6 @@
 -- A remark is read in one way, and ends ahead. Assumes nothing.
 use Rattle.std.proofs.Common.{◌≡◌, ℕ, ◌-◌, ◌<◌, List, IfOk, Ok, Err, codes, Result, sym, refl, ap, ◌∙◌, subst, arith}
 use Rattle.cam.specs.declared.fault.Fault.{Fault}
-use Rattle.words.specs.declared.token.Kind.{Kind}
 use Rattle.words.specs.declared.token.Kind.TheVariants.{Open, Close, Word}
 use Rattle.words.specs.declared.token.Token.{Token}
 use Rattle.words.specs.Lexing.{Lexed}

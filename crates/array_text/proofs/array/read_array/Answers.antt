@@ -1,4 +1,4 @@
-use Rattle.std.proofs.Common.{◌≡◌, ℕ, ◌≤◌, true, leb, [], Ok, Err, vec_items, vec_len, sym, refl, ap, ◌∙◌, subst, arith}
+use Rattle.std.proofs.Common.{◌≡◌, ℕ, ◌≤◌, true, leb, Ok, Err, vec_items, vec_len, sym, refl, ap, ◌∙◌, subst, arith}
 use Rattle.planes.specs.Planes.{blanked}
 use Rattle.std.proofs.lemmas.Bool.{le-leb}
 use Rattle.cam.specs.declared.fault.Reason.TheVariants.{BufferTooShort}

@@ -1,4 +1,4 @@
-use Rattle.std.proofs.Common.{◌≡◌, ℕ, ◌+◌, ◌*◌, false, ◌↔◌, length, sym, refl, ap, ◌∙◌, subst, ap₂}
+use Rattle.std.proofs.Common.{◌≡◌, ℕ, ◌+◌, ◌*◌, length, sym, ap, ◌∙◌, subst, ap₂}
 use Rattle.cam.specs.Defects.{Sound}
 use Rattle.cam.specs.Model.{Build}
 use Rattle.cam.specs.Operations.{after_all}

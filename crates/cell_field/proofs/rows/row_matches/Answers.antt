@@ -1,5 +1,5 @@
 use Rattle.std.proofs.Common.{◌≡◌, ℕ, ◌+◌, ◌<◌, Bool, true, false, ◌||◌, map, length, sym, ap, ◌∙◌, add-one, arith}
-use Rattle.std.proofs.lemmas.Bool.{and_from, or_from, or_left, or_right, not-true, not-false}
+use Rattle.std.proofs.lemmas.Bool.{and_from, or_from, or_left, or_right}
 use Rattle.cam.specs.Bits.{bit}
 use Rattle.cam.specs.Model.{agrees, all_below}
 use Rattle.cell_field.specs.Field.{at}

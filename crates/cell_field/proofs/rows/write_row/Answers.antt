@@ -1,8 +1,8 @@
-use Rattle.std.proofs.Common.{◌≡◌, ℕ, ◌+◌, ◌<◌, Bool, true, false, cond, map, length, sym, refl, ap, ◌∙◌, ap₂, arith}
+use Rattle.std.proofs.Common.{◌≡◌, ◌+◌, ◌<◌, true, false, map, length, sym, ap, ◌∙◌, ap₂, arith}
 use Rattle.std.proofs.lemmas.List.{get_or-map}
 use Rattle.std.proofs.lemmas.Bool.{cond-true, cond-false}
 use Rattle.cam.specs.Bits.{bit}
-use Rattle.cells.specs.Meaning.{CellMeaning, taken}
+use Rattle.cells.specs.Meaning.{taken}
 use Rattle.cell_field.specs.Field.{at, blank_cell}
 use Rattle.cell_field.proofs.Places.{cell_set, cell_other, wrote_none, wrote_more}
 use Rattle.cell_field.proofs.rows.write_row.Goals as goal

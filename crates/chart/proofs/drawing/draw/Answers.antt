@@ -1,4 +1,4 @@
-use Rattle.std.proofs.Common.{◌≡◌, ℕ, ◌+◌, ◌<◌, min, refl, ap, ◌∙◌, arith}
+use Rattle.std.proofs.Common.{ℕ, ◌+◌, min, refl, ap, ◌∙◌, arith}
 use Rattle.cam.specs.Model.{tally_cap}
 use Rattle.cam.proofs.Operating.{tally_rises}
 use Rattle.chart.specs.Chart.{chart_operations}

@@ -1,10 +1,3 @@
-use Rattle.std.proofs.Common.{◌≡◌, ◌*◌, ◌≤◌, [], ◌∷◌, ◌++◌}
-use Rattle.cam.specs.Machine.{upward}
-use Rattle.cam.specs.Defects.{blemished}
-use Rattle.cam.specs.Operations.{after_all}
-use Rattle.cam.specs.declared.operation.Operation.TheVariants.{Erase}
-use Rattle.march.specs.Tests.{word}
-use Rattle.chart.specs.Chart.{word_operations, sum_below, count_below}
 use Rattle.chart.proofs.Rows.{Drawn}
 use Rattle.chart.proofs.drawing.draw.Given as goal
 

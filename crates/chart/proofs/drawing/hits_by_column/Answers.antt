@@ -1,4 +1,4 @@
-use Rattle.std.proofs.Common.{◌≡◌, ℕ, ◌+◌, ◌<◌, true, false, sym, ap, ◌∙◌, subst, arith}
+use Rattle.std.proofs.Common.{◌≡◌, ℕ, ◌+◌, ◌<◌, sym, ap, ◌∙◌, subst, arith}
 use Rattle.cam.specs.Machine.{upward}
 use Rattle.cam.specs.Operations.{after_all}
 use Rattle.cam.proofs.BitLaws.{Built, built_set, built_left}

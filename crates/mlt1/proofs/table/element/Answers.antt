@@ -1,11 +1,10 @@
-use Rattle.std.proofs.Common.{◌≡◌, ◌<◌, map, length, sym, ap, ◌∙◌, arith}
+use Rattle.std.proofs.Common.{◌<◌, length, sym, ap, ◌∙◌, arith}
 use lib.ListN.{length-map}
 use Rattle.std.specs.Option.{option_map}
 use Rattle.std.specs.List.{slice_get}
 use Rattle.std.proofs.lemmas.Option.{slice_get-get_or}
 use Rattle.march.specs.Tests.{meant}
 use Rattle.march.proofs.Lists.{nth_map}
-use Rattle.mlt1.specs.Mlt1.{mlt1}
 use Rattle.mlt1.proofs.table.element.Goals as goal
 
 pub returns-then-at-lt7 : goal.returns-then-at-lt7

@@ -1,8 +1,6 @@
-use Rattle.std.proofs.Common.{◌≡◌, ℕ, ◌+◌, ◌*◌, ◌≤◌, min, Bool, length, sym, ap, ◌∙◌, ap₂, arith}
+use Rattle.std.proofs.Common.{◌≡◌, ℕ, ◌+◌, ◌*◌, min, Bool, sym, ap, ◌∙◌, ap₂, arith}
 use Rattle.cam.specs.Model.{tally_cap}
-use Rattle.march.specs.Tests.{schedule}
 use Rattle.march.proofs.Masking.{no_stand_in}
-use Rattle.mlt1.specs.Mlt1.{mlt1}
 use Rattle.mlt1.proofs.Lengths.{length_is}
 use Rattle.mlt1.proofs.Wents.{went_whole}
 use Rattle.mlt1.proofs.Separating.{separates}

@@ -1,4 +1,4 @@
-use Rattle.std.proofs.Common.{◌≡◌, ℕ, Bool, length, sym, ap, ◌∙◌, add-one}
+use Rattle.std.proofs.Common.{ℕ, Bool, length, sym, ap, ◌∙◌, add-one}
 use Rattle.std.proofs.lemmas.Bool.{or_from}
 use Rattle.cam.specs.Model.{any_below}
 use Rattle.cam.proofs.Below.{some_below}

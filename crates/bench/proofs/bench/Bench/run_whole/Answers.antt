@@ -1,4 +1,4 @@
-use Rattle.std.proofs.Common.{◌≡◌, ℕ, ◌+◌, ◌*◌, sym, ap, ◌∙◌, ap₂}
+use Rattle.std.proofs.Common.{ℕ, ◌+◌, ◌*◌, sym, ap, ◌∙◌, ap₂}
 use Rattle.cam.proofs.Asking.{refused_not_0}
 use Rattle.mlt1.proofs.Separating.{separates}
 use Rattle.bench.specs.Books.{found, finding_number, ran_whole}

@@ -1,4 +1,4 @@
-use Rattle.std.proofs.Common.{◌≡◌, map, length, refl, ap, ◌∙◌, rules}
+use Rattle.std.proofs.Common.{refl, rules}
 use Rattle.cell_field.proofs.Meanings.{made_build, made_state}
 use Rattle.cell_field.proofs.field.CellField.new.Goals as goal
 

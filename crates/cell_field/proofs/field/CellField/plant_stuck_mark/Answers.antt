@@ -1,7 +1,7 @@
-use Rattle.std.proofs.Common.{◌≡◌, ℕ, ◌<◌, ◌≤◌, Bool, true, false, cond, not, length, get_or, sym, refl, ap, ◌∙◌, subst, arith, rules}
-use Rattle.cam.specs.Refusals.{Refused, reason_number}
-use Rattle.cell_field.specs.Field.{used_words, is_stuck, mark_at}
-use Rattle.cell_field.specs.declared.mark.Mark.TheVariants.{Clear, Stuck}
+use Rattle.std.proofs.Common.{◌≡◌, ℕ, ◌<◌, ◌≤◌, true, false, length, sym, refl, ◌∙◌, subst, arith, rules}
+use Rattle.cam.specs.Refusals.{Refused}
+use Rattle.cell_field.specs.Field.{used_words}
+use Rattle.cell_field.specs.declared.mark.Mark.TheVariants.{Stuck}
 use Rattle.cell_field.proofs.Meanings.{few_words, plant-state, plant-build, asks_outside, asks_stuck}
 use Rattle.cell_field.proofs.field.CellField.plant_stuck_mark.Goals as goal
 

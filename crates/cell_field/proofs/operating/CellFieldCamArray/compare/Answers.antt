@@ -1,4 +1,4 @@
-use Rattle.std.proofs.Common.{◌≡◌, ℕ, ◌*◌, ◌<◌, ◌≤◌, Bool, ◌&&◌, map, length, get_or, sym, refl, ap, ◌∙◌, subst, ap₂, arith}
+use Rattle.std.proofs.Common.{ℕ, ◌*◌, ◌≤◌, Bool, ◌&&◌, map, length, get_or, sym, ap, ◌∙◌, subst, ap₂}
 use Rattle.cam.specs.Model.{hit, any_below}
 use Rattle.cam.proofs.Below.{any_same}
 use Rattle.cell_field.specs.declared.mark.Mark.TheVariants.{Clear}

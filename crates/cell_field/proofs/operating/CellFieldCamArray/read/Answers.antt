@@ -1,6 +1,6 @@
-use Rattle.std.proofs.Common.{◌≡◌, ℕ, ◌<◌, ◌≤◌, ltb, map, length, sym, refl, ap, ◌∙◌, ap₂, arith}
+use Rattle.std.proofs.Common.{ℕ, ◌<◌, ◌≤◌, ltb, map, length, sym, refl, ap, ◌∙◌, ap₂, arith}
 use Rattle.std.proofs.lemmas.Bool.{cond-false, le-ltb}
-use Rattle.cam.specs.Model.{read_word, one_more}
+use Rattle.cam.specs.Model.{read_word}
 use Rattle.cell_field.specs.Field.{used_words, field_build, field_state}
 use Rattle.cell_field.proofs.Meanings.{few_bits, row_inside, read_inside, build-inside, state-inside, build_of, count_state}
 use Rattle.cell_field.proofs.operating.CellFieldCamArray.read.Goals as goal

@@ -1,4 +1,4 @@
-use Rattle.std.proofs.Common.{◌≡◌, ◌^◌, ◌<◌, Bool, true, false, not, ◌&&◌, ◌||◌, sym, refl, ap, ◌∙◌, arith, rules}
+use Rattle.std.proofs.Common.{◌≡◌, ◌^◌, ◌<◌, Bool, true, false, not, ◌&&◌, ◌||◌, refl, ap, ◌∙◌, arith, rules}
 use Rattle.cam.proofs.Values.{none_set}
 use Rattle.match_register.proofs.Bits.{agreeing}
 use Rattle.match_register.proofs.operating.MatchRegisterCamArray.compare.Goals as goal

@@ -1,4 +1,4 @@
-use Rattle.std.proofs.Common.{◌≡◌, ltb, sym, refl, ap, ◌∙◌, arith, rules}
+use Rattle.std.proofs.Common.{◌≡◌, ltb, sym, refl, ◌∙◌, arith, rules}
 use Rattle.std.proofs.lemmas.Bool.{cond-true, lt-ltb}
 use Rattle.cam.proofs.Values.{value_low}
 use Rattle.match_register.proofs.Bits.{held, counts}

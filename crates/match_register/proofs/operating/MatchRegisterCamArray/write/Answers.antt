@@ -1,5 +1,5 @@
-use Rattle.std.proofs.Common.{◌≡◌, ℕ, ◌^◌, ◌<◌, ◌≤◌, sym, refl, ap, ◌∙◌, ap₂, arith, rules}
-use Rattle.cam.specs.Model.{Build, State, one_more}
+use Rattle.std.proofs.Common.{◌≡◌, ℕ, ◌^◌, ◌<◌, ◌≤◌, sym, ap, ◌∙◌, ap₂, arith, rules}
+use Rattle.cam.specs.Model.{one_more}
 use Rattle.cam.proofs.Outside.{written_outside, tally_more}
 use Rattle.match_register.specs.declared.register.MatchRegister.{MatchRegister}
 use Rattle.match_register.specs.Register.{register_build, register_state}

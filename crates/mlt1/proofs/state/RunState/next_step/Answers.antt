@@ -1,4 +1,4 @@
-use Rattle.std.proofs.Common.{◌≡◌, ◌+◌, ◌<◌, ◌≤◌, min, sym, ap, ◌∙◌, arith}
+use Rattle.std.proofs.Common.{min, sym, ap, ◌∙◌, arith}
 use Rattle.march.specs.Tests.{meant}
 use Rattle.march.proofs.Lengths.{per_visit_few}
 use Rattle.mlt1.specs.Mlt1.{mlt1}

@@ -1,4 +1,4 @@
-use Rattle.std.proofs.Common.{◌≡◌, ◌-◌, ◌≤◌, length, take, vec_items, refl, ap, ◌∙◌, arith}
+use Rattle.std.proofs.Common.{◌-◌, ◌≤◌, length, take, vec_items, refl, ap, ◌∙◌, arith}
 use Rattle.cam.specs.Model.{any_below}
 use Rattle.planes.specs.Planes.{state_from, matches_in}
 use Rattle.planes.proofs.Rows.{some_match}

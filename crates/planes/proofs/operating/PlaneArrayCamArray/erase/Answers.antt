@@ -1,4 +1,4 @@
-use Rattle.std.proofs.Common.{◌≡◌, ◌<◌, ◌≤◌, length, vec_items, sym, refl, ap, ◌∙◌, ap₂, arith}
+use Rattle.std.proofs.Common.{◌<◌, ◌≤◌, length, vec_items, sym, refl, ap, ◌∙◌, ap₂, arith}
 use Rattle.cam.proofs.Outside.{erased_outside}
 use Rattle.planes.specs.Planes.{build_from, state_from}
 use Rattle.planes.proofs.Rows.{erase_inside, build_same}

@@ -1,4 +1,4 @@
-use Rattle.std.proofs.Common.{◌≡◌, ◌<◌, refl, arith}
+use Rattle.std.proofs.Common.{◌<◌, refl, arith}
 use Rattle.cam.proofs.BitLaws.{bits}
 use Rattle.planes.proofs.word.WordRecord.plant_pair.Goals as goal
 

@@ -1,8 +1,8 @@
-use Rattle.std.proofs.Common.{◌≡◌, ℕ, ◌*◌, ◌%◌, ◌^◌, ◌<◌, Bool, true, eqb, ltb, refl, ap, ◌∙◌, arith, rules}
+use Rattle.std.proofs.Common.{◌≡◌, ℕ, ◌*◌, ◌%◌, ◌^◌, ◌<◌, true, eqb, ltb, refl, ap, ◌∙◌, arith}
 use Rattle.std.proofs.lemmas.Bool.{eq-eqb, eqb-true, ltb-true}
 use Rattle.std.proofs.lemmas.Bool.Decides.{nat_tests}
 use Rattle.cam.specs.declared.defect.Storage.TheVariants.{Good}
-use Rattle.cam.proofs.BitLaws.{bits, shl_one}
+use Rattle.cam.proofs.BitLaws.{bits}
 use Rattle.cam.proofs.Below.{split}
 use Rattle.planes.specs.declared.word.WordRecord.{WordRecord}
 use Rattle.planes.specs.Word.{storage_of}

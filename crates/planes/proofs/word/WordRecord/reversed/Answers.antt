@@ -1,4 +1,4 @@
-use Rattle.std.proofs.Common.{◌≡◌, ℕ, ◌^◌, ◌<◌, Bool, false, sym, ap, ◌∙◌, arith, rules}
+use Rattle.std.proofs.Common.{ℕ, ◌^◌, ◌<◌, ap, arith, rules}
 use Rattle.cam.specs.Bits.{bit}
 use Rattle.cam.proofs.BitLaws.{bits, bit_zero}
 use Rattle.planes.proofs.word.WordRecord.reversed.Goals as goal

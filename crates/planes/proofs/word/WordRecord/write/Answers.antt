@@ -1,4 +1,4 @@
-use Rattle.std.proofs.Common.{◌≡◌, ℕ, ◌^◌, ◌<◌, ◌≤◌, ltb, refl, arith, rules}
+use Rattle.std.proofs.Common.{◌^◌, ◌<◌, ltb, refl, arith, rules}
 use Rattle.std.proofs.lemmas.Bool.{ltb-true}
 use Rattle.cam.proofs.BitLaws.{bits}
 use Rattle.cam.proofs.Below.{split}
