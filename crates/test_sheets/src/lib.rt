@@ -3,4 +3,4 @@
 
 pub mod lengths;
 pub mod mlt1_sheet;
-pub mod sheets;
+pub mod whole_tests;

@@ -7,7 +7,7 @@ ghost use Rattle.sheet_writer.specs.Writing.{fits};
 ghost use Rattle.test_sheets.specs.Mlt1Sheet.{mlt1_sheet};
 ghost use Rattle.test_sheets.specs.RoundTrip.{Says};
 
-use crate::sheets::write_test;
+use crate::whole_tests::write_test;
 use cam::fault::Fault;
 use mlt1::table::mlt1_test;
 

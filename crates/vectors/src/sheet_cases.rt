@@ -5,7 +5,7 @@ use cam::fault::Fault;
 use sheets::sheet::read_sheet;
 use std::alloc::Global;
 use std::io::Write;
-use test_sheets::sheets::write_test;
+use test_sheets::whole_tests::write_test;
 
 fn rewrite(sheet: &[u8], buffer: &mut [u8]) -> Result<usize, Fault> {
     let test = read_sheet(sheet)?;

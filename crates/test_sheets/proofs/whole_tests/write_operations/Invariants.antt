@@ -3,7 +3,7 @@ use Rattle.march.specs.Tests.{meant}
 use Rattle.march.specs.Building.{operations_of}
 use Rattle.sheet_writer.specs.Sheets.{operation_piece}
 use Rattle.test_sheets.proofs.Written.{Pieces}
-use Rattle.test_sheets.proofs.sheets.write_operations.Given as goal
+use Rattle.test_sheets.proofs.whole_tests.write_operations.Given as goal
 
 -- the operations so far were written, and the state counts them
 abbrev pub invariant-loop-at : goal.invariant-loop-at

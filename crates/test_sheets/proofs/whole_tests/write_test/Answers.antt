@@ -18,7 +18,7 @@ use Rattle.test_sheets.proofs.Bytes.{sheet_length}
 use Rattle.test_sheets.specs.RoundTrip.{Says}
 use Rattle.test_sheets.proofs.PieceRuns.{pieces_read_back}
 use Rattle.test_sheets.proofs.Trips.{reads_back}
-use Rattle.test_sheets.proofs.sheets.write_test.Goals as goal
+use Rattle.test_sheets.proofs.whole_tests.write_test.Goals as goal
 
 -- what a whole test has
 whole_parts : (es : List Element) → is_whole es ≡ true → (1 ≤ length es) × (length es ≤ 16) × (every is_filled es ≡ true)

@@ -9,7 +9,7 @@ use Rattle.sheet_writer.specs.Sheets.{element_line}
 use Rattle.sheet_writer.specs.Writing.{between}
 use Rattle.test_sheets.proofs.Joins.{mapped_at, every_at, joined_within}
 use Rattle.test_sheets.proofs.Written.{pieces_none, pieces_more, pieces_all}
-use Rattle.test_sheets.proofs.sheets.write_elements.Goals as goal
+use Rattle.test_sheets.proofs.whole_tests.write_elements.Goals as goal
 
 pub loop-element-init : goal.loop-element-init
 loop-element-init c =

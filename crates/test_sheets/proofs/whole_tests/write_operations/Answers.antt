@@ -8,7 +8,7 @@ use Rattle.march.proofs.Table.{operations_few}
 use Rattle.sheet_writer.specs.Sheets.{operation_piece}
 use Rattle.test_sheets.proofs.Joins.{found, not_past, joined_within}
 use Rattle.test_sheets.proofs.Written.{pieces_none, pieces_more, pieces_all, operation_granted}
-use Rattle.test_sheets.proofs.sheets.write_operations.Goals as goal
+use Rattle.test_sheets.proofs.whole_tests.write_operations.Goals as goal
 
 pub loop-at-init : goal.loop-at-init
 loop-at-init c =

@@ -2,7 +2,7 @@ use Rattle.std.proofs.Common.{◌≡◌, ◌+◌, map}
 use Rattle.march.specs.Tests.{meant}
 use Rattle.sheet_writer.specs.Sheets.{element_line}
 use Rattle.test_sheets.proofs.Written.{Pieces}
-use Rattle.test_sheets.proofs.sheets.write_elements.Given as goal
+use Rattle.test_sheets.proofs.whole_tests.write_elements.Given as goal
 
 -- the lines so far were written, and the state counts them
 abbrev pub invariant-loop-element : goal.invariant-loop-element

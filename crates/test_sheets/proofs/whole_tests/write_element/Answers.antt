@@ -9,7 +9,7 @@ use Rattle.march.specs.Building.{order_of, operations_of}
 use Rattle.sheet_writer.specs.Sheets.{heading, operation_piece, ending, element_line}
 use Rattle.sheet_writer.specs.Writing.{fits, between}
 use Rattle.test_sheets.proofs.Bytes.{line_length}
-use Rattle.test_sheets.proofs.sheets.write_element.Goals as goal
+use Rattle.test_sheets.proofs.whole_tests.write_element.Goals as goal
 
 pub unreachable-requires : goal.unreachable-requires
 unreachable-requires c =
