@@ -54,12 +54,13 @@ def declared(path):
             inside = bool(re.match(r"(?:pub |abbrev |unfoldable )*(record|data) ", line))
             continue
         field = re.match(r"\s+(?:pub )?([^\s:(){}.,;=]+)\s*:", line)
-        # within a module with parameters the declarations stand two spaces in
-        nested = re.match(r"  (?:pub |abbrev |unfoldable |record |data )*([^\s:(){}.,;=]+)\s+(?=[:({])", line)
+        # within modules with parameters the declarations stand further in
+        nested = re.match(r"\s+(?:pub |abbrev |unfoldable |record |data )*([^\s:(){}.,;=]+)\s*:(\s|$)", line)
         if field and inside:
             fields.add(field.group(1))
-        elif nested and not inside and re.search(r"\s:(\s|$)", line):
+        elif nested and not inside:
             tops.add(nested.group(1))
+            fields.add(nested.group(1))
         elif line.strip() and not line[0].isspace():
             inside = False
     return tops, fields
@@ -89,11 +90,12 @@ def swap(text, names, fields):
 
 
 def with_bounds(text):
-    """Clauses name a ghost member by its bound: C.build x for build x. The traits themselves do not."""
+    """Clauses name a ghost member by its bound: C.build x for build x, and the test < of numbers as Rust does."""
     lines = text.split("\n")
     for at, line in enumerate(lines):
         if re.match(r"\s*(ensures|requires) ", line):
-            lines[at] = re.sub(r"(?<![\w.])(build|state|meaning)(?= [a-z])", r"C.\1", line)
+            line = re.sub(r"(?<![\w.])(build|state|meaning)(?= [a-z])", r"C.\1", line)
+            lines[at] = re.sub(r"(?<![\w.])ltb(?= )", "nat_lt", line)
     return "\n".join(lines)
 
 

@@ -85,7 +85,7 @@ column i = record { number = i }
 abbrev pub pair : Bool → Bool → Pair
 pair h b = record { held = h; comparand = b }
 
--- each defect of the list is in the array, and no other (`List.Memᴰ d ds` says that d is one of ds)
+-- each defect of the list is in the array, and no other (`Memᴰ d ds` says that d is one of ds)
 pub record Exactly (ds : List Defect) (B : Build) : Type 0 where
   pub storage : (k i : ℕ) (s : StorageDefect) → (B.storage k i ≡ storage_with s) ↔ Memᴰ (Storage (word k) (column i) s) ds
   pub wrong : (k i : ℕ) (h b : Bool) → (B.wrong k i h b ≡ true) ↔ Memᴰ (Wrong (word k) (column i) (pair h b)) ds

@@ -153,11 +153,11 @@ module _ (n a : ℕ) (marks : List Mark) (mark : Mark) (inside : a < n) (room : 
       (λ q. ap u (cond-false (eqb k a && ltb k n) mark (mark_at n marks k) q) ∙ sym (cond-false (eqb k a && ltb k n) (v (mark_at n marks k)) (u (mark_at n marks k)) q))
 
   pub marks_stay : (u : Mark → Bool) → u mark ≡ u (get_or marks a Clear) → (k : ℕ) → u (mark_at n (set marks a mark) k) ≡ u (mark_at n marks k)
-  marks_stay u e k = marks_after u u e k ∙ both-same (eqb k a && ltb k n) (u (mark_at n marks k))
+  marks_stay u e k = marks_after u u e k ∙ both_same (eqb k a && ltb k n) (u (mark_at n marks k))
     where
-      both-same : (t y : Bool) → cond t y y ≡ y
-      both-same true y = refl
-      both-same false y = refl
+      both_same : (t y : Bool) → cond t y y ≡ y
+      both_same true y = refl
+      both_same false y = refl
 
 -- a field of lent cells xs, whose number is l
 module _ {X : Type 0} (f : X → CellMeaning) (N W : ℕ) where
@@ -172,13 +172,13 @@ module _ {X : Type 0} (f : X → CellMeaning) (N W : ℕ) where
 
   -- where there is a word a, the width is W
   module _ (a l : ℕ) (inside : a < used_words N W l) where
-    pub build-inside : (xs : List X) (marks : List Mark) → length xs ≡ l → field_build (map f xs) N W marks ≡ build_from (used_words N W l) W (map f xs) marks
-    build-inside xs marks e =
+    pub build_inside : (xs : List X) (marks : List Mark) → length xs ≡ l → field_build (map f xs) N W marks ≡ build_from (used_words N W l) W (map f xs) marks
+    build_inside xs marks e =
         build_of xs marks ∙ ap (λ (l : ℕ). build_from (used_words N W l) (used_bits N W l) (map f xs) marks) e
         ∙ ap (λ (w : ℕ). build_from (used_words N W l) w (map f xs) marks) (bits_used N W l a inside)
 
-    pub state-inside : (xs : List X) (marks : List Mark) (t : ℕ) → length xs ≡ l → field_state (map f xs) N W marks t ≡ state_from (used_words N W l) W (map f xs) marks t
-    state-inside xs marks t e =
+    pub state_inside : (xs : List X) (marks : List Mark) (t : ℕ) → length xs ≡ l → field_state (map f xs) N W marks t ≡ state_from (used_words N W l) W (map f xs) marks t
+    state_inside xs marks t e =
         state_of xs marks t ∙ ap (λ (l : ℕ). state_from (used_words N W l) (used_bits N W l) (map f xs) marks t) e
         ∙ ap (λ (w : ℕ). state_from (used_words N W l) w (map f xs) marks t) (bits_used N W l a inside)
 
@@ -187,21 +187,21 @@ module _ {X : Type 0} (f : X → CellMeaning) (N W : ℕ) where
         (wrote : (i : ℕ) → at (map f ys) i ≡ wrote_at (a * W) W p m (map f xs) i)
         (room : a < length marks) (set_unless_stuck : is_set mark ≡ mark_after_write (is_stuck (get_or marks a Clear)) (is_set (get_or marks a Clear)))
         (stuck_stays : is_stuck mark ≡ is_stuck (get_or marks a Clear)) where
-      pub write-state : field_state (map f ys) N W (set marks a mark) (one_more t) ≡ written (field_build (map f xs) N W marks) a p m (field_state (map f xs) N W marks t)
-      write-state =
+      pub write_state : field_state (map f ys) N W (set marks a mark) (one_more t) ≡ written (field_build (map f xs) N W marks) a p m (field_state (map f xs) N W marks t)
+      write_state =
           let n : ℕ = used_words N W l in
-          state-inside ys (set marks a mark) (one_more t) new
+          state_inside ys (set marks a mark) (one_more t) new
           ∙ (λ d. record {
             held = λ k j. held_after n W a p m (map f xs) (map f ys) inside wrote k j d;
             mark = λ k. marks_after n a marks mark inside room is_set (λ y. mark_after_write (is_stuck y) (is_set y)) set_unless_stuck k d;
             tally = tally_more t d;
           })
-          ∙ ap₂ (λ B S. written B a p m S) (sym (build-inside xs marks old)) (sym (state-inside xs marks t old))
+          ∙ ap₂ (λ B S. written B a p m S) (sym (build_inside xs marks old)) (sym (state_inside xs marks t old))
 
-      pub write-build : field_build (map f ys) N W (set marks a mark) ≡ field_build (map f xs) N W marks
-      write-build =
+      pub write_build : field_build (map f ys) N W (set marks a mark) ≡ field_build (map f xs) N W marks
+      write_build =
           let n : ℕ = used_words N W l in
-          build-inside ys (set marks a mark) new
+          build_inside ys (set marks a mark) new
           ∙ (λ d. record {
             words = n;
             width = W;
@@ -209,24 +209,24 @@ module _ {X : Type 0} (f : X → CellMeaning) (N W : ℕ) where
             wrong = λ k j. wrong_after n W a p m (map f xs) (map f ys) inside wrote k j d;
             stuck = λ k. marks_stay n a marks mark inside room is_stuck stuck_stays k d;
           })
-          ∙ sym (build-inside xs marks old)
+          ∙ sym (build_inside xs marks old)
 
     -- the mark of word a alone replaced
     module _ (t : ℕ) (xs : List X) (marks : List Mark) (mark : Mark) (old : length xs ≡ l) (room : a < length marks) where
-      pub erase-state : is_set mark ≡ false
+      pub erase_state : is_set mark ≡ false
           → field_state (map f xs) N W (set marks a mark) (one_more t) ≡ erased (field_build (map f xs) N W marks) a (field_state (map f xs) N W marks t)
-      erase-state clear =
-          state-inside xs (set marks a mark) (one_more t) old
+      erase_state clear =
+          state_inside xs (set marks a mark) (one_more t) old
           ∙ (λ d. record {
             held = λ k j. (cell_at (used_words N W l) W (map f xs) k j).held;
             mark = λ k. marks_after (used_words N W l) a marks mark inside room is_set (λ y. false) clear k d;
             tally = tally_more t d;
           })
-          ∙ ap₂ (λ B S. erased B a S) (sym (build-inside xs marks old)) (sym (state-inside xs marks t old))
+          ∙ ap₂ (λ B S. erased B a S) (sym (build_inside xs marks old)) (sym (state_inside xs marks t old))
 
-      pub erase-build : is_stuck mark ≡ is_stuck (get_or marks a Clear) → field_build (map f xs) N W (set marks a mark) ≡ field_build (map f xs) N W marks
-      erase-build stuck_stays =
-          build-inside xs (set marks a mark) old
+      pub erase_build : is_stuck mark ≡ is_stuck (get_or marks a Clear) → field_build (map f xs) N W (set marks a mark) ≡ field_build (map f xs) N W marks
+      erase_build stuck_stays =
+          build_inside xs (set marks a mark) old
           ∙ (λ d. record {
             words = used_words N W l;
             width = W;
@@ -234,46 +234,46 @@ module _ {X : Type 0} (f : X → CellMeaning) (N W : ℕ) where
             wrong = λ k j. (cell_at (used_words N W l) W (map f xs) k j).wrong;
             stuck = λ k. marks_stay (used_words N W l) a marks mark inside room is_stuck stuck_stays k d;
           })
-          ∙ sym (build-inside xs marks old)
+          ∙ sym (build_inside xs marks old)
 
-      stuck-or : (k : ℕ) (u : Bool) → cond (eqb k a && ltb k (used_words N W l)) true u ≡ (eqb k a || u)
-      stuck-or k u =
+      stuck_or : (k : ℕ) (u : Bool) → cond (eqb k a && ltb k (used_words N W l)) true u ≡ (eqb k a || u)
+      stuck_or k u =
           split (eqb k a)
           (λ q. let e = eqb-true k a q in
           let h : k < used_words N W l = omega arith in
           cond-true (eqb k a && ltb k (used_words N W l)) true u (and_from _ _ q (lt-ltb k _ h)) ∙ ap (λ b. b || u) (sym q))
           (λ q. cond-false (eqb k a && ltb k (used_words N W l)) true u (and_left (eqb k a) _ q) ∙ ap (λ b. b || u) (sym q))
 
-      clear-and : (k : ℕ) (u : Bool) → cond (eqb k a && ltb k (used_words N W l)) false u ≡ (not (eqb k a) && u)
-      clear-and k u =
+      clear_and : (k : ℕ) (u : Bool) → cond (eqb k a && ltb k (used_words N W l)) false u ≡ (not (eqb k a) && u)
+      clear_and k u =
           split (eqb k a)
           (λ q. let e = eqb-true k a q in
           let h : k < used_words N W l = omega arith in
           cond-true (eqb k a && ltb k (used_words N W l)) false u (and_from _ _ q (lt-ltb k _ h)) ∙ ap (λ b. not b && u) (sym q))
           (λ q. cond-false (eqb k a && ltb k (used_words N W l)) false u (and_left (eqb k a) _ q) ∙ ap (λ b. not b && u) (sym q))
 
-      pub plant-build : is_stuck mark ≡ true → field_build (map f xs) N W (set marks a mark) ≡ with_stuck_mark a (field_build (map f xs) N W marks)
-      plant-build stuck =
-          build-inside xs (set marks a mark) old
+      pub plant_build : is_stuck mark ≡ true → field_build (map f xs) N W (set marks a mark) ≡ with_stuck_mark a (field_build (map f xs) N W marks)
+      plant_build stuck =
+          build_inside xs (set marks a mark) old
           ∙ (λ d. record {
             words = used_words N W l;
             width = W;
             storage = λ k j. (cell_at (used_words N W l) W (map f xs) k j).storage;
             wrong = λ k j. (cell_at (used_words N W l) W (map f xs) k j).wrong;
-            stuck = λ k. (marks_after (used_words N W l) a marks mark inside room is_stuck (λ y. true) stuck k ∙ stuck-or k _) d;
+            stuck = λ k. (marks_after (used_words N W l) a marks mark inside room is_stuck (λ y. true) stuck k ∙ stuck_or k _) d;
           })
-          ∙ ap (with_stuck_mark a) (sym (build-inside xs marks old))
+          ∙ ap (with_stuck_mark a) (sym (build_inside xs marks old))
 
-      pub plant-state : is_set mark ≡ false
+      pub plant_state : is_set mark ≡ false
           → field_state (map f xs) N W (set marks a mark) t ≡ unmarked a (field_state (map f xs) N W marks t)
-      plant-state clear =
-          state-inside xs (set marks a mark) t old
+      plant_state clear =
+          state_inside xs (set marks a mark) t old
           ∙ (λ d. record {
             held = λ k j. (cell_at (used_words N W l) W (map f xs) k j).held;
-            mark = λ k. (marks_after (used_words N W l) a marks mark inside room is_set (λ y. false) clear k ∙ clear-and k _) d;
+            mark = λ k. (marks_after (used_words N W l) a marks mark inside room is_set (λ y. false) clear k ∙ clear_and k _) d;
             tally = min t tally_cap;
           })
-          ∙ ap (unmarked a) (sym (state-inside xs marks t old))
+          ∙ ap (unmarked a) (sym (state_inside xs marks t old))
 
 -- a read or a compare
 pub count_state : (ms : List CellMeaning) (N W : ℕ) (marks : List Mark) (t : ℕ) → field_state ms N W marks (one_more t) ≡ counted (field_state ms N W marks t)

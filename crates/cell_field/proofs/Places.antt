@@ -73,10 +73,10 @@ wrote_more s j p m ms ns ks before here elsewhere i =
     ∙ ap (wrote_at s (j + 1) p m ms) (sym q))
     (λ e.
     let ne : i ≡ s + j → ⊥ = eqb-false i (s + j) e in
-    elsewhere i ne ∙ before i ∙ ap (λ t. cond (leb s i && t) (wrote_cell p m (i - s) (at ms i)) (at ms i)) (same-side i (s + j) (s + (j + 1)) ne (omega arith)))
+    elsewhere i ne ∙ before i ∙ ap (λ t. cond (leb s i && t) (wrote_cell p m (i - s) (at ms i)) (at ms i)) (same_side i (s + j) (s + (j + 1)) ne (omega arith)))
   where
-    same-side : (i a b : ℕ) → (i ≡ a → ⊥) → b ≡ a + 1 → ltb i a ≡ ltb i b
-    same-side i a b ne e =
+    same_side : (i a b : ℕ) → (i ≡ a → ⊥) → b ≡ a + 1 → ltb i a ≡ ltb i b
+    same_side i a b ne e =
         split (ltb i a)
         (λ t. t ∙ sym (lt-ltb i b (omega (arith, ltb-true i a t))))
         (λ t. t ∙ sym (le-ltb i b (omega (arith, ltb-false i a t))))

@@ -1,5 +1,5 @@
 // Drawing the chart of any array.
-ghost use Rattle.std.specs.Prelude.{◌≡◌, ℕ, ◌+◌, ◌*◌, ◌<◌, ◌≤◌, min, Bool, ltb, [], ◌∷◌, length, nat_lt};
+ghost use Rattle.std.specs.Prelude.{◌≡◌, ℕ, ◌+◌, ◌*◌, ◌<◌, ◌≤◌, min, Bool, [], ◌∷◌, length, nat_lt};
 ghost use Rattle.cam.specs.Defects.{blemished};
 ghost use Rattle.cam.specs.Model.{hit, bit, tally_cap};
 ghost use Rattle.cam.specs.Patterns.{equal_bits, all_but};
@@ -86,7 +86,7 @@ fn erase_all<C: CamArray>(array: &mut C)
 fn write_row(buffer: &mut [u8], start: usize, answers: &Answers, width: u8) -> u32
     requires places_fit { start ≤ 65536 }
     ensures bytes_of_the_word { Row answers.now start width buffer.old buffer.new }
-    ensures bytes_above_0 { result ≡ count_below width (λ j. ltb 0 (byte_of answers.now j)) }
+    ensures bytes_above_0 { result ≡ count_below width (λ j. nat_lt 0 (byte_of answers.now j)) }
     ensures few { result ≤ width }
 {
     let mut blemished = 0u32;

@@ -332,8 +332,8 @@ module _ (B : Build) where
   -- the converse: a sound array passes
 
   module _ (sound : Sound B) where
-    turn-passes : (b : Bool) (k : ℕ) (S : State) → k < B.words → Is b k S → misses B (turn b k) S ≡ 0
-    turn-passes b k S hk is =
+    turn_passes : (b : Bool) (k : ℕ) (S : State) → k < B.words → Is b k S → misses B (turn b k) S ≡ 0
+    turn_passes b k S hk is =
         let T : State = wr B (not b) k S in
         let it : Is (not b) k T = wr_is sound.good (not b) k S hk (is_free b k S is) in
         let p : ℕ = equal_bits B.width (not b) in
@@ -347,15 +347,15 @@ module _ (B : Build) where
         let z : ◌≡◌ {A = ℕ} (cond (not (beq (hit B p 0 T) true)) 1 0) 0 = hit_passes (hit B p 0 T) true yes-hit in
         omega arith
 
-    look-passes : (b : Bool) (k : ℕ) (S : State) → k < B.words → Is b k S → misses B (look b k) S ≡ 0
-    look-passes b k S hk is =
+    look_passes : (b : Bool) (k : ℕ) (S : State) → k < B.words → Is b k S → misses B (look b k) S ≡ 0
+    look_passes b k S hk is =
         let v : read_word B k S ≡ equal_bits B.width b =
         cond-true (ltb k B.words) (value B.width (S.held k)) 0 (lt-ltb k B.words hk) ∙ value_equal B.width (S.held k) b is.1 in
         let z : ◌≡◌ {A = ℕ} (cond (not (eqb (read_word B k S) (equal_bits B.width b))) 1 0) 0 = value_passes (read_word B k S) (equal_bits B.width b) v in
         omega arith
 
-    column-passes : (b : Bool) (j : ℕ) (S : State) → j < B.width → Uniform (not b) S → misses B (column b j) S ≡ 0
-    column-passes b j S hj u =
+    column_passes : (b : Bool) (j : ℕ) (S : State) → j < B.width → Uniform (not b) S → misses B (column b j) S ≡ 0
+    column_passes b j S hj u =
         let p : ℕ = equal_bits B.width b in
         let m : ℕ = all_but B.width j in
         let no_hit : hit B p m S ≡ false =
@@ -364,22 +364,22 @@ module _ (B : Build) where
         let z : ◌≡◌ {A = ℕ} (cond (not (beq (hit B p m S) false)) 1 0) 0 = hit_passes (hit B p m S) false no_hit in
         omega arith
 
-    pub half-passes : (dir b : Bool) (rest : List Step) (S : State) → Uniform b S
+    pub half_passes : (dir b : Bool) (rest : List Step) (S : State) → Uniform b S
         → ((T : State) → Uniform (not b) T → misses B rest T ≡ 0) → misses B (half dir b rest) S ≡ 0
-    half-passes dir b rest S u go =
+    half_passes dir b rest S u go =
         let E2 : List Step = sweep dir B.words (turn b) in
         let E3 : List Step = sweep dir B.words (look b) in
         let E4 : List Step = upward B.width (column b) in
         let S2 : State = after B E2 S in
         let S3 : State = after B E3 S2 in
         let h2 : misses B E2 S ≡ 0 =
-        passes B B.words (turn b) (Is b) (turn-passes b) (λ k i T hk hi n q. turn_is sound.good b k i T hk q) dir B.words (le_refl B.words) S u in
+        passes B B.words (turn b) (Is b) (turn_passes b) (λ k i T hk hi n q. turn_is sound.good b k i T hk q) dir B.words (le_refl B.words) S u in
         let u2 : Uniform b S2 =
         kept B B.words (turn b) (Uniform b) B.words (le_refl B.words) (λ k T hk v i hi. turn_is sound.good b k i T hk (v i hi)) dir S u in
         let h3 : misses B E3 S2 ≡ 0 =
-        passes B B.words (look b) (Is b) (look-passes b) (λ k i T hk hi n q. is_other b (not b) k i T n q) dir B.words (le_refl B.words) S2 u2 in
+        passes B B.words (look b) (Is b) (look_passes b) (λ k i T hk hi n q. is_other b (not b) k i T n q) dir B.words (le_refl B.words) S2 u2 in
         let u3 : Uniform (not b) S3 = look_uniform sound.good b dir S2 u2 h3 in
         let h4 : misses B E4 S3 ≡ 0 =
-        passes B B.width (column b) (λ j T. Uniform (not b) T) (column-passes b) (λ k i T hk hi n q. q) true B.width (le_refl B.width) S3 (λ i hi. u3) in
+        passes B B.width (column b) (λ j T. Uniform (not b) T) (column_passes b) (λ k i T hk hi n q. q) true B.width (le_refl B.width) S3 (λ i hi. u3) in
         both_pass B E2 (E3 ++ (E4 ++ rest)) S h2
         (both_pass B E3 (E4 ++ rest) S2 h3 (both_pass B E4 rest S3 h4 (go (after B E4 S3) (columns_keep b (not b) S3 u3))))

@@ -10,7 +10,7 @@ use Rattle.cam.proofs.Machine.{upward_reversed}
 use Rattle.march.proofs.Sweeps.{gather, passes, then_passes, both_pass}
 use Rattle.mlt1.specs.Mlt1.{mlt1}
 use Rattle.mlt1.specs.Separation.{Separates}
-use Rattle.mlt1.proofs.Halves.{turn, look, column, half, takes_good, half_takes, half_shows, half-passes, wr_is, wr_free, is_kept, AllGood, Free, Is, Uniform}
+use Rattle.mlt1.proofs.Halves.{turn, look, column, half, takes_good, half_takes, half_shows, half_passes, wr_is, wr_free, is_kept, AllGood, Free, Is, Uniform}
 
 module _ (B : Build) where
   abbrev start : ℕ → List Step
@@ -61,8 +61,8 @@ module _ (B : Build) where
   from : (S : State) → Steady B S → Sound B → misses B (E1 ++ tail) S ≡ 0
   from S st sound =
       both_pass B E1 tail S (start_passes S)
-      (half-passes B sound true true (half B false false []) (after B E1 S) (start_uniform sound.good S st)
-      (λ T u. half-passes B sound false false [] T u (λ U v. refl)))
+      (half_passes B sound true true (half B false false []) (after B E1 S) (start_uniform sound.good S st)
+      (λ T u. half_passes B sound false false [] T u (λ U v. refl)))
 
 pub separates : Separates
 separates B S w1 st =

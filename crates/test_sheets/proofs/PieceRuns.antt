@@ -54,12 +54,12 @@ more old x p at new f fit =
     let all = length-append x p in
     record {
       place = omega arith;
-      text = (λ i. over (f.text i) (zero-at f.place i) p) ∙ over_over old x p 0 (omega arith);
+      text = (λ i. over (f.text i) (zero_at f.place i) p) ∙ over_over old x p 0 (omega arith);
       room = omega arith;
     }
   where
-    zero-at : {n m : ℕ} → n ≡ m → n ≡ 0 + m
-    zero-at e = omega arith
+    zero_at : {n m : ℕ} → n ≡ m → n ≡ 0 + m
+    zero_at e = omega arith
 
 -- the same text, grouped in another way
 regrouped : (old x y : List ℕ) (at : ℕ) (new : List ℕ) → x ≡ y → Front old x at new → Front old y at new

@@ -2,7 +2,7 @@ use Rattle.std.proofs.Common.{◌≡◌, ℕ, ◌<◌, ◌≤◌, true, false, l
 use Rattle.cam.specs.Refusals.{Refused}
 use Rattle.cell_field.specs.Field.{used_words}
 use Rattle.cell_field.specs.declared.mark.Mark.TheVariants.{Stuck}
-use Rattle.cell_field.proofs.Meanings.{few_words, plant-state, plant-build, asks_outside, asks_stuck}
+use Rattle.cell_field.proofs.Meanings.{few_words, plant_state, plant_build, asks_outside, asks_stuck}
 use Rattle.cell_field.proofs.field.CellField.plant_stuck_mark.Goals as goal
 
 pub returns-then-word-used_words : goal.returns-then-word-used_words
@@ -52,6 +52,6 @@ returns g c =
       words_stay = refl;
       width_stays = refl;
       tally_stays = refl;
-      only_this_mark_planted = plant-build f s.words s.width a l inside s.tally xs s.marks Stuck refl room refl;
-      only_this_mark_cleared = plant-state f s.words s.width a l inside s.tally xs s.marks Stuck refl room refl;
+      only_this_mark_planted = plant_build f s.words s.width a l inside s.tally xs s.marks Stuck refl room refl;
+      only_this_mark_cleared = plant_state f s.words s.width a l inside s.tally xs s.marks Stuck refl room refl;
     }

@@ -3,7 +3,7 @@ use Rattle.cam.specs.Model.{Build, State, one_more}
 use Rattle.cam.proofs.Outside.{erased_outside}
 use Rattle.cell_field.specs.declared.field.CellField.{CellField}
 use Rattle.cell_field.specs.Field.{used_words, field_build, field_state}
-use Rattle.cell_field.proofs.Meanings.{few_words, erase-state, erase-build, outside, count_state}
+use Rattle.cell_field.proofs.Meanings.{few_words, erase_state, erase_build, outside, count_state}
 use Rattle.cell_field.proofs.operating.CellFieldCamArray.erase.Goals as goal
 use Rattle.cell_field.proofs.operating.CellFieldCamArray.erase.Goals.{then-word-used_words, else-word-used_words}
 
@@ -24,8 +24,8 @@ returns g c =
           let room : a < length s.marks = omega (arith, few_words s.words s.width l) in
           record {
             state_after_erase = ap₂ state_of w.self-is (counted ∙ ap (λ (r : CellField g.row.C.Denot). one_more r.tally) w.self-is)
-                ∙ erase-state f s.words s.width a l inside s.tally xs s.marks w.erased.result refl room w.erased.ensures.clear;
-            build_stays = ap build_of w.self-is ∙ erase-build f s.words s.width a l inside s.tally xs s.marks w.erased.result refl room w.erased.ensures.stuck_stays;
+                ∙ erase_state f s.words s.width a l inside s.tally xs s.marks w.erased.result refl room w.erased.ensures.clear;
+            build_stays = ap build_of w.self-is ∙ erase_build f s.words s.width a l inside s.tally xs s.marks w.erased.result refl room w.erased.ensures.stuck_stays;
           }
       | else-word-used_words w ↦
           let past : used_words s.words s.width l ≤ a = omega (arith, c.used_words.ensures.words_used, w.if-word-used_words.false) in

@@ -2,7 +2,7 @@ use Rattle.std.proofs.Common.{ℕ, ◌<◌, ◌≤◌, ltb, map, length, sym, re
 use Rattle.std.proofs.lemmas.Bool.{cond-false, le-ltb}
 use Rattle.cam.specs.Model.{read_word}
 use Rattle.cell_field.specs.Field.{used_words, field_build, field_state}
-use Rattle.cell_field.proofs.Meanings.{few_bits, row_inside, read_inside, build-inside, state-inside, build_of, count_state}
+use Rattle.cell_field.proofs.Meanings.{few_bits, row_inside, read_inside, build_inside, state_inside, build_of, count_state}
 use Rattle.cell_field.proofs.operating.CellFieldCamArray.read.Goals as goal
 
 pub read_lent_row-requires : goal.read_lent_row-requires
@@ -25,7 +25,7 @@ returns-then-word-used_words g c =
     let stay = c.read_lent_row.ensures.cells_stay in
     record {
       held_bits = c.read_lent_row.ensures.held_bits ∙ read_inside n s.width (map f xs) s.marks s.tally a inside
-          ∙ ap₂ (λ B S. read_word B a S) (sym (build-inside f s.words s.width a l inside xs s.marks refl)) (sym (state-inside f s.words s.width a l inside xs s.marks s.tally refl));
+          ∙ ap₂ (λ B S. read_word B a S) (sym (build_inside f s.words s.width a l inside xs s.marks refl)) (sym (state_inside f s.words s.width a l inside xs s.marks s.tally refl));
       only_counted = ap₂ (λ ys t. field_state (map f ys) s.words s.width s.marks t) stay c.one_more-self.ensures.next ∙ count_state (map f xs) s.words s.width s.marks s.tally;
       build_stays = ap (λ ys. field_build (map f ys) s.words s.width s.marks) stay;
     }

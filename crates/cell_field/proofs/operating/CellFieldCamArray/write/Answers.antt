@@ -3,7 +3,7 @@ use Rattle.cam.specs.Model.{Build, State, one_more}
 use Rattle.cam.proofs.Outside.{written_outside}
 use Rattle.cell_field.specs.declared.field.CellField.{CellField}
 use Rattle.cell_field.specs.Field.{used_words, field_build, field_state}
-use Rattle.cell_field.proofs.Meanings.{few_words, row_inside, write-state, write-build, outside, count_state}
+use Rattle.cell_field.proofs.Meanings.{few_words, row_inside, write_state, write_build, outside, count_state}
 use Rattle.cell_field.proofs.operating.CellFieldCamArray.write.Goals as goal
 use Rattle.cell_field.proofs.operating.CellFieldCamArray.write.Goals.{then-word-used_words, else-word-used_words}
 
@@ -37,9 +37,9 @@ returns g c =
           let done = w.written.ensures in
           record {
             state_after_write = ap₂ state_of w.self-is (counted ∙ ap (λ (r : CellField g.row.C.Denot). one_more r.tally) w.self-is)
-                ∙ write-state f s.words s.width a l inside p m s.tally xs ys s.marks w.written.result refl long w.write_row.ensures.cells_of_the_row_written room done.set_unless_stuck done.stuck_stays;
+                ∙ write_state f s.words s.width a l inside p m s.tally xs ys s.marks w.written.result refl long w.write_row.ensures.cells_of_the_row_written room done.set_unless_stuck done.stuck_stays;
             build_stays = ap build_of w.self-is
-                ∙ write-build f s.words s.width a l inside p m s.tally xs ys s.marks w.written.result refl long w.write_row.ensures.cells_of_the_row_written room done.set_unless_stuck done.stuck_stays;
+                ∙ write_build f s.words s.width a l inside p m s.tally xs ys s.marks w.written.result refl long w.write_row.ensures.cells_of_the_row_written room done.set_unless_stuck done.stuck_stays;
           }
       | else-word-used_words w ↦
           let past : used_words s.words s.width l ≤ a = omega (arith, c.used_words.ensures.words_used, w.if-word-used_words.false) in
