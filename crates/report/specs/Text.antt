@@ -1,6 +1,6 @@
 -- The lines of a judgement.
 use Rattle.std.specs.Prelude.{◌≡◌, ℕ, cond, List, [], ◌∷◌, ◌++◌, length, codes, decimal, ◌==◌, nat_le}
-use Rattle.cam.specs.Buffers.{over}
+pub use Rattle.cam.specs.Buffers.{over}
 use Rattle.cam.specs.Refusals.{Question, ask}
 
 -- the lines, each with its line feed
