@@ -4,7 +4,7 @@ ghost use Rattle.cam.specs.Model.{agrees};
 ghost use Rattle.cam.specs.Defects.{in_set, response, storage_with};
 
 // How a cell stores: good; always 0 or always 1; holding 0 it does not rise, holding 1 it does not fall.
-#[derive(Clone, Copy)]
+#[derive(Clone, Copy, PartialEq, Eq)]
 pub enum Storage {
     Good,
     Sa0,
@@ -14,7 +14,7 @@ pub enum Storage {
 }
 
 // The storage that is not good.
-#[derive(Clone, Copy)]
+#[derive(Clone, Copy, PartialEq, Eq)]
 pub enum StorageDefect {
     Sa0,
     Sa1,
@@ -22,12 +22,12 @@ pub enum StorageDefect {
     NoFall,
 }
 
-impl StorageDefect {
-    // The storage of a cell with this defect.
-    pub fn storage(self) -> Storage
-        ensures storage_with_defect { result ≡ storage_with self }
-    {
-        match self {
+// The storage of a cell with this defect.
+impl From<StorageDefect> for Storage {
+    ghost from_gives = { λ defect storage. storage ≡ storage_with defect };
+
+    fn from(defect: StorageDefect) -> Storage {
+        match defect {
             StorageDefect::Sa0 => Storage::Sa0,
             StorageDefect::Sa1 => Storage::Sa1,
             StorageDefect::NoRise => Storage::NoRise,
@@ -37,14 +37,14 @@ impl StorageDefect {
 }
 
 // What a cell holds, beside the bit that it is compared with. Pairs are written 00, 01, 11, 10, the held bit first.
-#[derive(Clone, Copy)]
+#[derive(Clone, Copy, PartialEq, Eq)]
 pub struct Pair {
     pub held: bool,
     pub comparand: bool,
 }
 
 // The pairs for which a cell's answer is reversed. A sound cell has none.
-#[derive(Clone, Copy)]
+#[derive(Clone, Copy, PartialEq, Eq)]
 pub struct WrongSet {
     pub has00: bool,
     pub has01: bool,
@@ -68,7 +68,7 @@ impl WrongSet {
 // The comparison faults that have names: stuck match and stuck mismatch (SMF, SMMF), a match that follows the
 // comparand alone (CM1F, CM0F) or the held bit alone (PM1F, PM0F), a mismatch of equal bits (EMM1F, EMM0F), and
 // a match of unequal ones (IM1F, IM0F).
-#[derive(Clone, Copy)]
+#[derive(Clone, Copy, PartialEq, Eq)]
 pub enum NamedFault {
     Smf,
     Smmf,

@@ -2,8 +2,11 @@
 ghost use Rattle.std.specs.Prelude.{◌≡◌};
 ghost use Rattle.cam.specs.Refusals.{Refused, reason_number, layer_number};
 
+use std::error::Error;
+use std::fmt;
+
 // Why a call refuses.
-#[derive(Clone, Copy)]
+#[derive(Clone, Copy, Debug, PartialEq, Eq)]
 pub enum Reason {
     // a text of more than 4,096 bytes
     TextTooLong = 11,
@@ -54,7 +57,7 @@ pub enum Reason {
 }
 
 // Which layer of a text gave the refusal; `Call` for a call without a text.
-#[derive(Clone, Copy)]
+#[derive(Clone, Copy, Debug, PartialEq, Eq)]
 pub enum Layer {
     Call = 0,
     Words = 1,
@@ -63,7 +66,7 @@ pub enum Layer {
 }
 
 // A refusal. Without a text its layer is `Call` and its place 0.
-#[derive(Clone, Copy)]
+#[derive(Clone, Copy, Debug, PartialEq, Eq)]
 pub struct Fault {
     pub reason: Reason,
     pub layer: Layer,
@@ -95,3 +98,15 @@ impl Fault {
         self.layer as u8
     }
 }
+
+// `refused NUMBER LAYER PLACE`
+impl fmt::Display for Fault {
+    fn fmt<W: fmt::Write>(&self, f: &mut fmt::Formatter<W>) -> fmt::Result {
+        let number = self.number();
+        let layer = self.layer_number();
+        let place = self.place;
+        write!(f, "refused {number} {layer} {place}")
+    }
+}
+
+impl Error for Fault {}

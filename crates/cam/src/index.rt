@@ -11,3 +11,10 @@ pub struct WordIndex {
 pub struct ColumnIndex {
     pub number: u8,
 }
+
+// A cell: its word and its column.
+#[derive(Clone, Copy)]
+pub struct CellIndex {
+    pub word: WordIndex,
+    pub column: ColumnIndex,
+}

@@ -9,4 +9,5 @@ pub mod defect;
 pub mod fault;
 pub mod index;
 pub mod operation;
+pub mod size;
 pub mod tally;
