@@ -1,13 +1,11 @@
 -- The wrong set of a transistor cell, by going through all cases.
-use Rattle.std.proofs.Common.{◌≡◌, Bool, true, false, not, ◌&&◌, sym, refl, ap, ◌∙◌}
+use Rattle.std.proofs.Common.{◌≡◌, Bool, true, false, not, ◌&&◌, sym, refl, ap, ◌∙◌, None, Some}
 use mathlib.Core.Bool.{beq}
 use Rattle.std.proofs.lemmas.Bool.{true≢false, and_parts, and_from, not-true, or_parts, or_from}
 use Rattle.cam.specs.Defects.{in_set, some_wrong}
-use Rattle.cells.specs.declared.transistor.Transistor.{Transistor}
-use Rattle.cells.specs.declared.transistor.Transistor.TheVariants.{Good, StuckOpen, StuckOn}
-use Rattle.cells.specs.declared.transistor.Latch.TheVariants as latch
+use Rattle.cells.specs.declared.transistor.TransistorFault.TheVariants.{Open, On}
 use Rattle.cells.specs.declared.transistor.TransistorCell.{TransistorCell}
-use Rattle.cells.specs.Transistors.{mismatches, wrong_by, EmptyExactlyWhenGood}
+use Rattle.cells.specs.Transistors.{Transistor, mismatches, wrong_by, EmptyExactlyWhenGood}
 
 same_true : (x : Bool) → beq x true ≡ x
 same_true true = refl
@@ -34,26 +32,26 @@ equal false false e = refl
 
 -- a test of every transistor
 abbrev each : (Transistor → Bool) → Bool
-each f = f Good && (f StuckOpen && f StuckOn)
+each f = f None && (f (Some Open) && f (Some On))
 
 each_one : (f : Transistor → Bool) → each f ≡ true → (t : Transistor) → f t ≡ true
-each_one f e Good = (and_parts (f Good) _ e).0
-each_one f e StuckOpen = (and_parts (f StuckOpen) _ (and_parts (f Good) _ e).1).0
-each_one f e StuckOn = (and_parts (f StuckOpen) _ (and_parts (f Good) _ e).1).1
+each_one f e None = (and_parts (f None) _ e).0
+each_one f e (Some Open) = (and_parts (f (Some Open)) _ (and_parts (f None) _ e).1).0
+each_one f e (Some On) = (and_parts (f (Some Open)) _ (and_parts (f None) _ e).1).1
 
 abbrev cell : Transistor → Transistor → Transistor → Transistor → TransistorCell
 cell p q r s =
-    record { held = false; latch = latch.Good; leg_a = record { storage = p; search = q }; leg_b = record { storage = r; search = s } }
+    record { held = false; latch = None; leg_a = record { storage = p; search = q }; leg_b = record { storage = r; search = s } }
 
 abbrev good : Transistor → Bool
-good Good = true
-good StuckOpen = false
-good StuckOn = false
+good None = true
+good (Some Open) = false
+good (Some On) = false
 
-is_good_lem : (t : Transistor) → good t ≡ true → t ≡ Good
-is_good_lem Good e = refl
-is_good_lem StuckOpen e = absurd (true≢false (sym e))
-is_good_lem StuckOn e = absurd (true≢false (sym e))
+is_good_lem : (t : Transistor) → good t ≡ true → t ≡ None
+is_good_lem None e = refl
+is_good_lem (Some Open) e = absurd (true≢false (sym e))
+is_good_lem (Some On) e = absurd (true≢false (sym e))
 
 -- no pair is wrong exactly in the one of the 81 cells whose transistors are all good
 abbrev told : Transistor → Transistor → Transistor → Transistor → Bool

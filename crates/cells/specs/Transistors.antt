@@ -1,33 +1,34 @@
 -- The comparison of a transistor cell, and what its wrong set is.
-use Rattle.std.specs.Prelude.{◌≡◌, Bool, true, false, not, ◌&&◌, ◌||◌, ◌↔◌}
+use Rattle.std.specs.Prelude.{◌≡◌, Bool, true, false, not, ◌&&◌, ◌||◌, ◌↔◌, Option, None, Some}
 use Rattle.std.proofs.Common.{ap}
 use Rattle.std.specs.Bool.{beq}
 use Rattle.cam.specs.Defects.{settled_bit, is_pair}
 use Rattle.cam.specs.declared.defect.Storage.{Storage}
 use Rattle.cam.specs.declared.defect.Storage.TheVariants as storage
 use Rattle.cam.specs.declared.defect.Pair.{Pair}
-use Rattle.cells.specs.declared.transistor.Transistor.{Transistor}
-use Rattle.cells.specs.declared.transistor.Transistor.TheVariants.{Good, StuckOpen, StuckOn}
-use Rattle.cells.specs.declared.transistor.Latch.{Latch}
-use Rattle.cells.specs.declared.transistor.Latch.TheVariants as latch
 use Rattle.cells.specs.declared.transistor.Leg.{Leg}
 use Rattle.cells.specs.declared.transistor.TransistorCell.{TransistorCell}
 use Rattle.cells.specs.declared.transistor.Position.{Position}
 use Rattle.cells.specs.declared.transistor.Position.TheVariants.{StorageA, SearchA, StorageB, SearchB}
 use Rattle.cells.specs.declared.transistor.TransistorFault.{TransistorFault}
-use Rattle.cells.specs.declared.transistor.TransistorFault.TheVariants as fault
+use Rattle.cells.specs.declared.transistor.TransistorFault.TheVariants.{Open, On}
 use Rattle.cells.specs.Meaning.{CellMeaning, SteadyCell}
 
-abbrev pub latch_storage : Latch → Storage
-latch_storage latch.Good = storage.Good
-latch_storage latch.Sa0 = storage.Sa0
-latch_storage latch.Sa1 = storage.Sa1
+-- a transistor: its fault, if it has one
+abbrev pub Transistor : Type 0
+Transistor = Option TransistorFault
+
+-- how a cell stores whose latch is good or stuck at a bit
+abbrev pub latch_storage : Option Bool → Storage
+latch_storage None = storage.Good
+latch_storage (Some false) = storage.Sa0
+latch_storage (Some true) = storage.Sa1
 
 -- whether a transistor conducts when its gate is on or off
 abbrev pub conducts : Transistor → Bool → Bool
-conducts Good gate = gate
-conducts StuckOpen gate = false
-conducts StuckOn gate = true
+conducts None gate = gate
+conducts (Some Open) gate = false
+conducts (Some On) gate = true
 
 -- a leg pulls when both its transistors conduct; the gates are those of its storage and of its search transistor
 abbrev pub pulls : Leg → Bool → Bool → Bool
@@ -52,18 +53,14 @@ transistor_steady c =
     record { low = λ e. ap (λ s. settled_bit s c.held) e; high = λ e. ap (λ s. settled_bit s c.held) e }
 
 pub record AllGood (c : TransistorCell) : Type 0 where
-  pub storage_a : c.leg_a.storage ≡ Good
-  pub search_a : c.leg_a.search ≡ Good
-  pub storage_b : c.leg_b.storage ≡ Good
-  pub search_b : c.leg_b.search ≡ Good
+  pub storage_a : c.leg_a.storage ≡ None
+  pub search_a : c.leg_a.search ≡ None
+  pub storage_b : c.leg_b.storage ≡ None
+  pub search_b : c.leg_b.search ≡ None
 
 -- a cell answers every pair rightly exactly when its four transistors are good
 abbrev pub EmptyExactlyWhenGood : Type 0
 EmptyExactlyWhenGood = (c : TransistorCell) → ((h b : Bool) → wrong_by c h b ≡ false) ↔ AllGood c
-
-abbrev pub stuck : TransistorFault → Transistor
-stuck fault.Open = StuckOpen
-stuck fault.On = StuckOn
 
 -- the cell with one of its transistors stuck, and all else as it was
 abbrev pub with_stuck : Position → Transistor → TransistorCell → TransistorCell
@@ -81,17 +78,17 @@ pair h b = record { held = h; comparand = b }
 
 -- the one pair that a single stuck transistor puts into the wrong set
 abbrev pub pair_of : Position → TransistorFault → Pair
-pair_of StorageA fault.Open = pair true false
-pair_of SearchA fault.Open = pair true false
-pair_of StorageA fault.On = pair false false
-pair_of SearchA fault.On = pair true true
-pair_of StorageB fault.Open = pair false true
-pair_of SearchB fault.Open = pair false true
-pair_of StorageB fault.On = pair true true
-pair_of SearchB fault.On = pair false false
+pair_of StorageA Open = pair true false
+pair_of SearchA Open = pair true false
+pair_of StorageA On = pair false false
+pair_of SearchA On = pair true true
+pair_of StorageB Open = pair false true
+pair_of SearchB Open = pair false true
+pair_of StorageB On = pair true true
+pair_of SearchB On = pair false false
 
 -- each single transistor fault puts just its pair into the wrong set
 abbrev pub EachSingleFault : Type 0
 EachSingleFault =
     (c : TransistorCell) → AllGood c → (p : Position) (f : TransistorFault) (h b : Bool)
-    → wrong_by (with_stuck p (stuck f) c) h b ≡ is_pair (pair_of p f).held (pair_of p f).comparand h b
+    → wrong_by (with_stuck p (Some f) c) h b ≡ is_pair (pair_of p f).held (pair_of p f).comparand h b

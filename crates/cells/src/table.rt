@@ -7,7 +7,7 @@ use cam::defect::{Pair, Storage, WrongSet};
 
 // A cell that stores its held bit, its storage and its wrong set as they are. An sa0 cell counts as holding 0 and an sa1
 // cell as holding 1, whatever `held` says.
-#[derive(Clone, Copy)]
+#[derive(Clone, Copy, PartialEq, Eq)]
 pub struct TableCell {
     pub held: bool,
     pub storage: Storage,

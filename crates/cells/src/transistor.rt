@@ -1,67 +1,20 @@
 // The transistor cell.
 ghost use Rattle.std.specs.Prelude.{◌≡◌, Bool, false, not};
 ghost use Rattle.cam.specs.Defects.{in_set, is_pair};
-ghost use Rattle.cells.specs.Transistors.{conducts, pulls, mismatches, stuck, with_stuck, wrong_by, AllGood, pair_of, transistor_meaning, transistor_steady, EmptyExactlyWhenGood, EachSingleFault};
+ghost use Rattle.cells.specs.Transistors.{conducts, pulls, mismatches, with_stuck, wrong_by, AllGood, pair_of, transistor_meaning, transistor_steady, EmptyExactlyWhenGood, EachSingleFault};
 
 use crate::kind::CellKind;
 use cam::defect::WrongSet;
 
-// A transistor conducts when its gate is on; stuck open it never does, stuck on it always does.
-#[derive(Clone, Copy)]
-pub enum Transistor {
-    Good,
-    StuckOpen,
-    StuckOn,
-}
-
-impl Transistor {
-    fn conducts(self, gate: bool) -> bool
-        ensures as_its_state_allows { result ≡ conducts self gate }
-    {
-        match self {
-            Transistor::Good => gate,
-            Transistor::StuckOpen => false,
-            Transistor::StuckOn => true,
-        }
-    }
-}
-
-// How the cell stores its bit: good, always 0 or always 1.
-#[derive(Clone, Copy)]
-pub enum Latch {
-    Good,
-    Sa0,
-    Sa1,
-}
-
-// A leg of the search path: two transistors in a row, one at the stored bit and one at the search line. It pulls the
-// match line down when both conduct.
-#[derive(Clone, Copy)]
-pub struct Leg {
-    pub storage: Transistor,
-    pub search: Transistor,
-}
-
-impl Leg {
-    fn pulls(self, stored: bool, sought: bool) -> bool
-        ensures both_conduct { result ≡ pulls self stored sought }
-    {
-        self.storage.conducts(stored) && self.search.conducts(sought)
-    }
-}
-
-// A cell of two legs. Leg A's storage transistor conducts at held 1 and its search transistor at comparand 0, leg B's at
-// held 0 and at comparand 1. An sa0 cell counts as holding 0 and an sa1 cell as holding 1, whatever `held` says.
-#[derive(Clone, Copy)]
-pub struct TransistorCell {
-    pub held: bool,
-    pub latch: Latch,
-    pub leg_a: Leg,
-    pub leg_b: Leg,
+// What may be wrong with a transistor: open it never conducts, on it always does.
+#[derive(Clone, Copy, PartialEq, Eq)]
+pub enum TransistorFault {
+    Open,
+    On,
 }
 
 // Which of the four transistors.
-#[derive(Clone, Copy)]
+#[derive(Clone, Copy, PartialEq, Eq)]
 pub enum Position {
     StorageA,
     SearchA,
@@ -69,10 +22,42 @@ pub enum Position {
     SearchB,
 }
 
-#[derive(Clone, Copy)]
-pub enum TransistorFault {
-    Open,
-    On,
+// Whether a transistor conducts. A good one, which has no fault, does when its gate is on.
+fn conducts(transistor: Option<TransistorFault>, gate: bool) -> bool
+    ensures as_its_state_allows { result ≡ conducts transistor gate }
+{
+    match transistor {
+        None => gate,
+        Some(TransistorFault::Open) => false,
+        Some(TransistorFault::On) => true,
+    }
+}
+
+// A leg of the search path: two transistors in a row, one at the stored bit and one at the search line. It pulls the
+// match line down when both conduct.
+#[derive(Clone, Copy, PartialEq, Eq)]
+pub struct Leg {
+    pub storage: Option<TransistorFault>,
+    pub search: Option<TransistorFault>,
+}
+
+impl Leg {
+    fn pulls(self, stored: bool, sought: bool) -> bool
+        ensures both_conduct { result ≡ pulls self stored sought }
+    {
+        conducts(self.storage, stored) && conducts(self.search, sought)
+    }
+}
+
+// A cell of two legs. Leg A's storage transistor conducts at held 1 and its search transistor at comparand 0, leg B's at
+// held 0 and at comparand 1. A latch that is not good is stuck at a bit: the cell counts as holding that bit, whatever
+// `held` says.
+#[derive(Clone, Copy, PartialEq, Eq)]
+pub struct TransistorCell {
+    pub held: bool,
+    pub latch: Option<bool>,
+    pub leg_a: Leg,
+    pub leg_b: Leg,
 }
 
 impl TransistorCell {
@@ -82,12 +67,12 @@ impl TransistorCell {
         ensures all_transistors_good { AllGood result }
     {
         let leg = Leg {
-            storage: Transistor::Good,
-            search: Transistor::Good,
+            storage: None,
+            search: None,
         };
         TransistorCell {
             held,
-            latch: Latch::Good,
+            latch: None,
             leg_a: leg,
             leg_b: leg,
         }
@@ -95,13 +80,10 @@ impl TransistorCell {
 
     // The cell with one of its transistors stuck.
     pub fn with_stuck(self, position: Position, fault: TransistorFault) -> TransistorCell
-        ensures only_this_one_stuck { result ≡ with_stuck position (stuck fault) self }
+        ensures only_this_one_stuck { result ≡ with_stuck position (Some fault) self }
         ensures each_single_fault { EachSingleFault }
     {
-        let stuck = match fault {
-            TransistorFault::Open => Transistor::StuckOpen,
-            TransistorFault::On => Transistor::StuckOn,
-        };
+        let stuck = Some(fault);
         let mut cell = self;
         match position {
             Position::StorageA => cell.leg_a.storage = stuck,
@@ -139,19 +121,11 @@ impl CellKind for TransistorCell {
     ghost steady = { transistor_steady };
 
     fn take(&mut self, bit: bool) {
-        self.held = match self.latch {
-            Latch::Good => bit,
-            Latch::Sa0 => false,
-            Latch::Sa1 => true,
-        };
+        self.held = self.latch.unwrap_or(bit);
     }
 
     fn held(&self) -> bool {
-        match self.latch {
-            Latch::Good => self.held,
-            Latch::Sa0 => false,
-            Latch::Sa1 => true,
-        }
+        self.latch.unwrap_or(self.held)
     }
 
     fn answer(&self, comparand: bool) -> bool {
