@@ -1,19 +1,24 @@
 // The pieces of a sheet, and whether one fits.
-ghost use Rattle.std.specs.Prelude.{◌≡◌};
+ghost use Rattle.std.specs.Prelude.{◌≡◌, [], ◌∷◌};
+ghost use Rattle.cam.specs.Refusals.{Asks, ask};
 ghost use Rattle.sheet_writer.specs.Sheets.{heading, compare_piece, operation_piece};
 ghost use Rattle.sheet_writer.specs.Writing.{fits};
 
+use cam::fault::{Fault, Reason};
 use march::element::{Comparison, TestOperation};
 use march::operations::Order;
 
 // How an element ends, and how a sheet ends.
 pub const ENDING: &[u8] = b")\n";
 
-// Whether a piece fits into a buffer from a place on.
-pub(crate) fn has_room(buffer: &[u8], at: usize, piece: &[u8]) -> bool
-    ensures piece_fits { result ≡ fits at piece.now buffer.now }
+// Asks whether a piece fits into a buffer from a place on (61).
+pub(crate) fn ask_room(buffer: &[u8], at: usize, piece: &[u8]) -> Result<(), Fault>
+    ensures asks_room { Asks (ask (fits at piece.now buffer.now) 61 ∷ []) result }
 {
-    at <= buffer.len() && piece.len() <= buffer.len() - at
+    if at > buffer.len() || piece.len() > buffer.len() - at {
+        return Err(Fault::of_call(Reason::PieceDoesNotFit));
+    }
+    Ok(())
 }
 
 // How an element begins.

@@ -1,5 +1,8 @@
 // The states of a sheet that is being written. Each is plain numbers, and can be made and taken apart only here: a
 // state is spent by the call that it is handed to, and nobody can write an operation where no element is open.
+// A struct of the two numbers that both have would be one more name at each place and shorten none.
+ghost use Rattle.std.specs.Prelude.{◌≡◌, OnOk, IfErr};
+
 use cam::fault::Fault;
 use march::operations::Order;
 
@@ -39,5 +42,16 @@ impl InsideElement {
             elements: _,
             operations: _,
         } = self;
+    }
+}
+
+// Hands a state on where each question of the call was answered yes, and else back with the refusal.
+pub(crate) fn granted<S>(state: S, asked: Result<(), Fault>) -> Result<S, NotWritten<S>>
+    ensures granted_where_yes { OnOk asked (result ≡ Ok state) }
+    ensures refused_with_the_state { IfErr asked (λ fault. result ≡ Err (record { state = state; fault = fault })) }
+{
+    match asked {
+        Ok(()) => Ok(state),
+        Err(fault) => Err(NotWritten { state, fault }),
     }
 }

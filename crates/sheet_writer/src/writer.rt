@@ -6,8 +6,8 @@ ghost use Rattle.march.specs.Building.{opened, allows};
 ghost use Rattle.sheet_writer.specs.Sheets.{beginning, heading, operation_piece, ending};
 ghost use Rattle.sheet_writer.specs.Writing.{between, inside, begin_questions, open_questions, write_questions, close_questions, end_questions, Writes};
 
-use crate::pieces::{ENDING, has_room, heading as heading_of, operation_piece};
-use crate::states::{BetweenElements, InsideElement, NotWritten};
+use crate::pieces::{ENDING, ask_room, heading as heading_of, operation_piece};
+use crate::states::{BetweenElements, InsideElement, NotWritten, granted};
 use cam::buffer::put_text;
 use cam::fault::{Fault, Reason};
 use march::element::TestOperation;
@@ -31,6 +31,27 @@ impl BetweenElements {
         Ok(BetweenElements { at, elements: 0 })
     }
 
+    // Before an element: were fewer than sixteen opened (31), and does its heading fit (61)?
+    fn ask_open(&self, order: Order, buffer: &[u8]) -> Result<(), Fault>
+        ensures asks_in_order { Asks (open_questions self.now order buffer.now) result }
+    {
+        if self.elements >= 16 {
+            return Err(Fault::of_call(Reason::TooManyElements));
+        }
+        ask_room(buffer, self.at, heading_of(order))
+    }
+
+    // Before the end: does it fit (61), and is there an element (62)?
+    fn ask_end(&self, buffer: &[u8]) -> Result<(), Fault>
+        ensures asks_in_order { Asks (end_questions self.now buffer.now) result }
+    {
+        ask_room(buffer, self.at, ENDING)?;
+        if self.elements == 0 {
+            return Err(Fault::of_call(Reason::NothingInside));
+        }
+        Ok(())
+    }
+
     // Opens an element: `(up`, `(down` or `(columns`.
     pub fn open(
         self,
@@ -40,23 +61,10 @@ impl BetweenElements {
         ensures asks_in_order { AsksIn (λ e. e.fault) (open_questions self order buffer.old) result }
         ensures heading_written { Writes (heading order) self.at self (inside (self.at + length (heading order)) order (self.elements + 1) 0) buffer.old buffer.new result }
     {
-        if self.elements >= 16 {
-            return Err(NotWritten {
-                state: self,
-                fault: Fault::of_call(Reason::TooManyElements),
-            });
-        }
-        let piece = heading_of(order);
-        if !has_room(buffer, self.at, piece) {
-            return Err(NotWritten {
-                state: self,
-                fault: Fault::of_call(Reason::PieceDoesNotFit),
-            });
-        }
-        let BetweenElements { at, elements } = self;
-        let at = put_text(buffer, at, piece);
+        let asked = self.ask_open(order, buffer);
+        let BetweenElements { at, elements } = granted(self, asked)?;
         Ok(InsideElement {
-            at,
+            at: put_text(buffer, at, heading_of(order)),
             order,
             elements: elements + 1,
             operations: 0,
@@ -68,24 +76,37 @@ impl BetweenElements {
         ensures asks_in_order { AsksIn (λ e. e.fault) (end_questions self buffer.old) result }
         ensures ending_written { Writes ending self.at self (self.at + length ending) buffer.old buffer.new result }
     {
-        if !has_room(buffer, self.at, ENDING) {
-            return Err(NotWritten {
-                state: self,
-                fault: Fault::of_call(Reason::PieceDoesNotFit),
-            });
-        }
-        if self.elements == 0 {
-            return Err(NotWritten {
-                state: self,
-                fault: Fault::of_call(Reason::NothingInside),
-            });
-        }
-        let BetweenElements { at, elements: _ } = self;
+        let asked = self.ask_end(buffer);
+        let BetweenElements { at, elements: _ } = granted(self, asked)?;
         Ok(put_text(buffer, at, ENDING))
     }
 }
 
 impl InsideElement {
+    // Before an operation: are there fewer than eight (32), may the element have it (33), and does it fit (61)?
+    fn ask_write(&self, operation: TestOperation, buffer: &[u8]) -> Result<(), Fault>
+        ensures asks_in_order { Asks (write_questions self.now operation buffer.now) result }
+    {
+        if self.operations >= 8 {
+            return Err(Fault::of_call(Reason::TooManyOperations));
+        }
+        if !is_allowed(self.order, operation) {
+            return Err(Fault::of_call(Reason::OnlyComparesInColumns));
+        }
+        ask_room(buffer, self.at, operation_piece(operation))
+    }
+
+    // Before the element is closed: does the ending fit (61), and is there an operation (62)?
+    fn ask_close(&self, buffer: &[u8]) -> Result<(), Fault>
+        ensures asks_in_order { Asks (close_questions self.now buffer.now) result }
+    {
+        ask_room(buffer, self.at, ENDING)?;
+        if self.operations == 0 {
+            return Err(Fault::of_call(Reason::NothingInside));
+        }
+        Ok(())
+    }
+
     // Writes an operation of the element.
     pub fn write(
         self,
@@ -95,38 +116,11 @@ impl InsideElement {
         ensures asks_in_order { AsksIn (λ e. e.fault) (write_questions self operation buffer.old) result }
         ensures operation_written { Writes (operation_piece operation) self.at self (inside (self.at + length (operation_piece operation)) self.order self.elements (self.operations + 1)) buffer.old buffer.new result }
     {
-        if self.operations >= 8 {
-            return Err(NotWritten {
-                state: self,
-                fault: Fault::of_call(Reason::TooManyOperations),
-            });
-        }
-        if !is_allowed(self.order, operation) {
-            return Err(NotWritten {
-                state: self,
-                fault: Fault::of_call(Reason::OnlyComparesInColumns),
-            });
-        }
-        let piece = operation_piece(operation);
-        if !has_room(buffer, self.at, piece) {
-            return Err(NotWritten {
-                state: self,
-                fault: Fault::of_call(Reason::PieceDoesNotFit),
-            });
-        }
-        let InsideElement {
-            at,
-            order,
-            elements,
-            operations,
-        } = self;
-        let at = put_text(buffer, at, piece);
-        Ok(InsideElement {
-            at,
-            order,
-            elements,
-            operations: operations + 1,
-        })
+        let asked = self.ask_write(operation, buffer);
+        let mut state = granted(self, asked)?;
+        state.at = put_text(buffer, state.at, operation_piece(operation));
+        state.operations += 1;
+        Ok(state)
     }
 
     // Closes the element.
@@ -134,24 +128,13 @@ impl InsideElement {
         ensures asks_in_order { AsksIn (λ e. e.fault) (close_questions self buffer.old) result }
         ensures ending_written { Writes ending self.at self (between (self.at + length ending) self.elements) buffer.old buffer.new result }
     {
-        if !has_room(buffer, self.at, ENDING) {
-            return Err(NotWritten {
-                state: self,
-                fault: Fault::of_call(Reason::PieceDoesNotFit),
-            });
-        }
-        if self.operations == 0 {
-            return Err(NotWritten {
-                state: self,
-                fault: Fault::of_call(Reason::NothingInside),
-            });
-        }
+        let asked = self.ask_close(buffer);
         let InsideElement {
             at,
             order: _,
             elements,
             operations: _,
-        } = self;
+        } = granted(self, asked)?;
         let at = put_text(buffer, at, ENDING);
         Ok(BetweenElements { at, elements })
     }
@@ -161,10 +144,8 @@ impl InsideElement {
 fn is_allowed(order: Order, operation: TestOperation) -> bool
     ensures allowed_in_order { result ≡ allows (opened order) operation }
 {
-    match (order, operation) {
-        (Order::Up, _) => true,
-        (Order::Down, _) => true,
-        (Order::Columns, TestOperation::Compare(_)) => true,
-        (Order::Columns, _) => false,
+    match order {
+        Order::Up | Order::Down => true,
+        Order::Columns => matches!(operation, TestOperation::Compare(_)),
     }
 }
