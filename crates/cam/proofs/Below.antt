@@ -1,5 +1,6 @@
--- Facts on a test of every number below n: any_below and all_below.
-use Rattle.std.proofs.Common.{◌≡◌, ℕ, zero, suc, ◌<◌, Bool, true, false, ◌&&◌, ◌||◌, eqb, sym, refl, subst, ap₂, arith}
+-- Facts on a test of every number below n, any_below and all_below, also where the numbers are the places of a list.
+use Rattle.std.proofs.Common.{◌≡◌, ℕ, zero, suc, ◌<◌, Bool, true, false, ◌&&◌, ◌||◌, eqb, List, [], ◌∷◌, length, get_or, sym, refl, subst, ap, ◌∙◌, ap₂, arith}
+use Rattle.std.specs.List.{list_any, list_all}
 use Rattle.std.proofs.lemmas.Bool.{both_ways, eqb-true, eqb-false, and_from, and_parts, or_from, or_parts}
 use Rattle.cam.specs.Model.{any_below, all_below}
 
@@ -45,3 +46,23 @@ any_same (suc n) f g h = ap₂ ◌||◌ (h n (omega arith)) (any_same n f g (λ 
 pub all_same : (n : ℕ) (f g : ℕ → Bool) → ((k : ℕ) → k < n → f k ≡ g k) → all_below n f ≡ all_below n g
 all_same zero f g h = refl
 all_same (suc n) f g h = ap₂ ◌&&◌ (h n (omega arith)) (all_same n f g (λ k l. h k (omega arith)))
+
+any_from_0 : (n : ℕ) (f : ℕ → Bool) → any_below (suc n) f ≡ (f 0 || any_below n (λ k. f (suc k)))
+any_from_0 zero f = refl
+any_from_0 (suc n) f = let rest = any_from_0 n f in grind arith
+
+all_from_0 : (n : ℕ) (f : ℕ → Bool) → all_below (suc n) f ≡ (f 0 && all_below n (λ k. f (suc k)))
+all_from_0 zero f = refl
+all_from_0 (suc n) f = let rest = all_from_0 n f in grind arith
+
+-- what `any` answers of a list, as a test of its places
+pub any_of_list : {X : Type 0} (test : X → Bool) (d : X) (xs : List X) → list_any test xs ≡ any_below (length xs) (λ k. test (get_or xs k d))
+any_of_list test d [] = refl
+any_of_list test d (x ∷ xs) =
+    ap (λ b. test x || b) (any_of_list test d xs) ∙ sym (any_from_0 (length xs) (λ k. test (get_or (x ∷ xs) k d)))
+
+-- what `all` answers of a list, as a test of its places
+pub all_of_list : {X : Type 0} (test : X → Bool) (d : X) (xs : List X) → list_all test xs ≡ all_below (length xs) (λ k. test (get_or xs k d))
+all_of_list test d [] = refl
+all_of_list test d (x ∷ xs) =
+    ap (λ b. test x && b) (all_of_list test d xs) ∙ sym (all_from_0 (length xs) (λ k. test (get_or (x ∷ xs) k d)))

@@ -148,12 +148,11 @@ module _ (n : ℕ) (rs : List WordRecord) (a : ℕ) (x r : WordRecord) (fits : n
       (λ k ne. ap (λ e. not e && mark_of (record_at n rs k)) (sym (ne_eqb k a ne)))
 
 -- the words of the first n records, as a compare asks them
-pub some_match : (n l w p m : ℕ) (rs : List WordRecord) → l ≡ n → n ≤ length rs
-    → any_below (length (take l rs)) (matches_in w p m (take l rs))
+pub some_match : (n w p m : ℕ) (rs : List WordRecord) → n ≤ length rs
+    → any_below (length (take n rs)) (matches_in w p m (take n rs))
     ≡ any_below n (λ k. word_matches w (wrong_of (record_at n rs k)) p m (mark_of (record_at n rs k)) (shown w (record_at n rs k)))
-some_match n l w p m rs e fits =
-    ap (λ (l : ℕ). any_below (length (take l rs)) (matches_in w p m (take l rs))) e
-    ∙ ap (λ (l : ℕ). any_below l (matches_in w p m (take n rs))) (length-take-le n rs fits)
+some_match n w p m rs fits =
+    ap (λ (l : ℕ). any_below l (matches_in w p m (take n rs))) (length-take-le n rs fits)
     ∙ any_same n _ _ (λ k l.
     ap (λ y. word_matches w (wrong_of y) p m (mark_of y) (shown w y))
     (get_or-take n rs k blank_record l ∙ sym (cond-true (ltb k n) _ _ (lt-ltb k n l))))

@@ -59,15 +59,15 @@ shows_high w r j l e =
 
 pub well_formed : (p : PlaneArray) → WellFormed (build_of p) (state_of p)
 well_formed p =
-    let word : ℕ → WordRecord = record_at p.words (vec_items p.records) in
+    let word : ℕ → WordRecord = record_at p.size.words (vec_items p.records) in
     record {
       few_words = p.few_words;
       some_bits = p.some_bits;
       few_bits = p.few_bits;
       tally_within = p.tally_within;
       steady = record {
-        low = λ k j hk hj e. shows_low p.width (word k) j e;
-        high = λ k j hk hj e. shows_high p.width (word k) j hj e;
+        low = λ k j hk hj e. shows_low p.size.width (word k) j e;
+        high = λ k j hk hj e. shows_high p.size.width (word k) j hj e;
         clear = λ k hk e. and_right (word k).mark (not (word k).stuck) (ap not e);
       };
     }

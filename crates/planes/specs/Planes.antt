@@ -24,10 +24,10 @@ state_from n w rs t =
     record { held = λ k. shown w (record_at n rs k); mark = λ k. mark_of (record_at n rs k); tally = t }
 
 abbrev pub build_of : PlaneArray → Build
-build_of p = build_from p.words p.width (vec_items p.records)
+build_of p = build_from p.size.words p.size.width (vec_items p.records)
 
 abbrev pub state_of : PlaneArray → State
-state_of p = state_from p.words p.width (vec_items p.records) p.tally
+state_of p = state_from p.size.words p.size.width (vec_items p.records) p.tally
 
 -- the first n records blank, the others as they were
 abbrev pub blanked : ℕ → List WordRecord → List WordRecord
@@ -35,8 +35,8 @@ blanked n rs = map (λ r. blank_record) (take n rs) ++ drop n rs
 
 -- the array has as many words as before, and the records past the last of them are as they were
 pub record KeepsLater (before after : PlaneArray) : Type 0 where
-  pub words : after.words ≡ before.words
-  pub later : drop before.words (vec_items after.records) ≡ drop before.words (vec_items before.records)
+  pub words : after.size.words ≡ before.size.words
+  pub later : drop before.size.words (vec_items after.records) ≡ drop before.size.words (vec_items before.records)
 
 -- whether the word of record k matches
 abbrev pub matches_in : ℕ → ℕ → ℕ → List WordRecord → ℕ → Bool

@@ -1,21 +1,22 @@
 // The plane array itself. Its methods stand in other files, since they cite definitions that name it.
-ghost use Rattle.std.specs.Prelude.{◌≤◌, vec_len};
+ghost use Rattle.std.specs.Prelude.{◌≡◌, ◌≤◌, vec_len};
 ghost use Rattle.cam.specs.Model.{tally_cap};
 
 use crate::word::WordRecord;
 use cam::fault::Fault;
+use cam::size::Size;
 
-// An array over the caller's records, which it keeps until `into_records`. It uses the first `words` of them.
+// An array over the caller's records, which it keeps until `into_records`. It uses one for each word, the first ones: the
+// caller may hand over more, and gets them all back.
 #[derive(Drop)]
 pub struct PlaneArray {
     pub(crate) records: Vec<WordRecord>,
-    pub(crate) words: u16,
-    pub(crate) width: u8,
+    pub(crate) size: Size,
     pub(crate) tally: u64,
-    ghost few_words: { words ≤ 256 },
-    ghost some_bits: { 1 ≤ width },
-    ghost few_bits: { width ≤ 64 },
-    ghost recorded: { words ≤ vec_len records },
+    ghost few_words: { size.words ≤ 256 },
+    ghost some_bits: { 1 ≤ size.width },
+    ghost few_bits: { size.width ≤ 64 },
+    ghost recorded: { size.words ≤ vec_len records },
     ghost tally_within: { tally ≤ tally_cap },
 }
 
@@ -24,4 +25,13 @@ pub struct PlaneArray {
 pub struct NotMade {
     pub records: Vec<WordRecord>,
     pub fault: Fault,
+}
+
+// Of an array that was not made, the reason alone.
+impl From<NotMade> for Fault {
+    ghost from_gives = { λ not_made fault. fault ≡ not_made.fault };
+
+    fn from(not_made: NotMade) -> Fault {
+        not_made.fault
+    }
 }

@@ -7,45 +7,44 @@ ghost use Rattle.planes.specs.Planes.{build_of, state_of, blanked};
 use crate::array::{NotMade, PlaneArray};
 use crate::word::WordRecord;
 use cam::fault::{Fault, Reason};
+use cam::size::Size;
 
 // Blanks the first `count` records.
 fn blank_first(records: &mut [WordRecord], count: usize)
     requires within { count ≤ length records.old }
     ensures first_blank_others_stay { records.new ≡ blanked count records.old }
 {
-    for at in 0..count {
-        records[at] = WordRecord::blank();
-    }
+    records[..count].fill(WordRecord::blank());
 }
 
 impl PlaneArray {
-    // Makes an array of `words` words of `width` bits without defects, bits 0 and marks clear. It asks for 1 to 256
-    // words of 1 to 64 bits (41), then for a record for each word (57). What the records hold does not matter; those
-    // past the last word are left as they are.
-    pub fn new(records: Vec<WordRecord>, words: u16, width: u8) -> Result<PlaneArray, NotMade>
-        ensures asks_size_then_records { AsksIn (λ e. e.fault) (ask (within_limits words width) 41 ∷ ask (nat_le words (vec_len records)) 57 ∷ []) result }
-        ensures made_flawless { MatchResult result (λ p. build_of p ≡ flawless words width) (λ e. e.records ≡ records) }
+    // Makes an array of this size without defects, bits 0 and marks clear. It asks for 1 to 256 words of 1 to 64 bits
+    // (41), then for a record for each word (57). What the records hold does not matter; those past the last word are
+    // left as they are.
+    pub fn new(records: Vec<WordRecord>, size: Size) -> Result<PlaneArray, NotMade>
+        ensures asks_size_then_records { AsksIn (λ e. e.fault) (ask (within_limits size.words size.width) 41 ∷ ask (nat_le size.words (vec_len records)) 57 ∷ []) result }
+        ensures made_flawless { MatchResult result (λ p. build_of p ≡ flawless size.words size.width) (λ e. e.records ≡ records) }
         ensures made_cleared { MatchResult result (λ p. state_of p ≡ cleared) (λ e. e.records ≡ records) }
-        ensures later_records_stay { MatchResult result (λ p. p.records.items ≡ blanked words records.items) (λ e. e.records ≡ records) }
+        ensures later_records_stay { MatchResult result (λ p. p.records.items ≡ blanked size.words records.items) (λ e. e.records ≡ records) }
     {
-        if words < 1 || words > 256 || width < 1 || width > 64 {
+        if size.words < 1 || size.words > 256 || size.width < 1 || size.width > 64 {
             return Err(NotMade {
                 records,
                 fault: Fault::of_call(Reason::SizeOutsideLimits),
             });
         }
-        if records.len() < words as usize {
+        let words = size.words as usize;
+        if records.len() < words {
             return Err(NotMade {
                 records,
                 fault: Fault::of_call(Reason::BufferTooShort),
             });
         }
         let mut records = records;
-        blank_first(records.as_mut_slice(), words as usize);
+        blank_first(records.as_mut_slice(), words);
         Ok(PlaneArray {
             records,
-            words,
-            width,
+            size,
             tally: 0,
         })
     }
@@ -54,12 +53,6 @@ impl PlaneArray {
     pub fn into_records(self) -> Vec<WordRecord>
         ensures records_as_they_are { result ≡ self.records }
     {
-        let PlaneArray {
-            records,
-            words: _,
-            width: _,
-            tally: _,
-        } = self;
-        records
+        self.records
     }
 }

@@ -1,27 +1,11 @@
 // The plane array as an array under test.
-ghost use Rattle.std.specs.Prelude.{◌≡◌, ◌≤◌, length};
-ghost use Rattle.cam.specs.Model.{any_below};
 ghost use Rattle.planes.specs.Formed.{well_formed};
-ghost use Rattle.planes.specs.Planes.{build_of, state_of, matches_in};
+ghost use Rattle.planes.specs.Planes.{build_of, state_of};
 
 use crate::array::PlaneArray;
-use crate::word::WordRecord;
 use cam::array::CamArray;
 use cam::index::WordIndex;
 use cam::tally::one_more;
-
-// Whether some record's word matches.
-fn any_matches(records: &[WordRecord], pattern: u64, mask: u64, width: u8) -> bool
-    requires few_bits { width ≤ 64 }
-    ensures some_word { result ≡ any_below (length records.now) (matches_in width pattern mask records.now) }
-{
-    for record in records {
-        if record.matches(pattern, mask, width) {
-            return true;
-        }
-    }
-    false
-}
 
 impl CamArray for PlaneArray {
     ghost build = { build_of };
@@ -31,11 +15,11 @@ impl CamArray for PlaneArray {
     ghost formed = { well_formed };
 
     fn words(&self) -> u16 {
-        self.words
+        self.size.words
     }
 
     fn width(&self) -> u8 {
-        self.width
+        self.size.width
     }
 
     fn tally(&self) -> u64 {
@@ -43,7 +27,7 @@ impl CamArray for PlaneArray {
     }
 
     fn write(&mut self, word: WordIndex, pattern: u64, mask: u64) {
-        if word.number < self.words {
+        if word.number < self.size.words {
             self.records[word.number as usize].write(pattern, mask);
         }
         self.tally = one_more(self.tally);
@@ -51,8 +35,8 @@ impl CamArray for PlaneArray {
 
     fn read(&mut self, word: WordIndex) -> u64 {
         self.tally = one_more(self.tally);
-        if word.number < self.words {
-            self.records[word.number as usize].read(self.width)
+        if word.number < self.size.words {
+            self.records[word.number as usize].read(self.size.width)
         } else {
             0
         }
@@ -60,17 +44,14 @@ impl CamArray for PlaneArray {
 
     fn compare(&mut self, pattern: u64, mask: u64) -> bool {
         self.tally = one_more(self.tally);
-        let words = self.words as usize;
-        any_matches(
-            &self.records.as_slice()[0..words],
-            pattern,
-            mask,
-            self.width,
-        )
+        let width = self.size.width;
+        self.records.as_slice()[..self.size.words as usize]
+            .iter()
+            .any(|record| record.matches(pattern, mask, width))
     }
 
     fn erase(&mut self, word: WordIndex) {
-        if word.number < self.words {
+        if word.number < self.size.words {
             self.records[word.number as usize].mark = false;
         }
         self.tally = one_more(self.tally);

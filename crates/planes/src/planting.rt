@@ -8,60 +8,48 @@ ghost use Rattle.planes.specs.Planes.{build_of, state_of, KeepsLater};
 use crate::array::PlaneArray;
 use cam::defect::{Pair, Storage, StorageDefect};
 use cam::fault::{Fault, Reason};
-use cam::index::{ColumnIndex, WordIndex};
+use cam::index::{CellIndex, WordIndex};
 
 impl PlaneArray {
-    fn has_cell(&self, word: WordIndex, column: ColumnIndex) -> bool
-        ensures inside_array { result ≡ has_cell (build_of self.now) word.number column.number }
+    fn has_cell(&self, cell: CellIndex) -> bool
+        ensures inside_array { result ≡ has_cell (build_of self.now) cell.word.number cell.column.number }
     {
-        word.number < self.words && column.number < self.width
+        cell.word.number < self.size.words && cell.column.number < self.size.width
     }
 
     // Gives a cell a storage defect. An sa0 cell then holds 0, an sa1 cell 1.
-    pub fn plant_storage(
-        &mut self,
-        word: WordIndex,
-        column: ColumnIndex,
-        defect: StorageDefect,
-    ) -> Result<(), Fault>
-        ensures asks_place_then_storage { Asks (ask (has_cell (build_of self.old) word.number column.number) 42 ∷ ask (is_good ((build_of self.old).storage word.number column.number)) 43 ∷ []) result }
-        ensures only_this_defect_planted { MatchResult result (λ _. build_of self.new ≡ with_storage word.number column.number (storage_with defect) (build_of self.old)) (λ _. self.new ≡ self.old) }
-        ensures only_held_bit_settled { MatchResult result (λ _. state_of self.new ≡ settled word.number column.number (storage_with defect) (state_of self.old)) (λ _. self.new ≡ self.old) }
+    pub fn plant_storage(&mut self, cell: CellIndex, defect: StorageDefect) -> Result<(), Fault>
+        ensures asks_place_then_storage { Asks (ask (has_cell (build_of self.old) cell.word.number cell.column.number) 42 ∷ ask (is_good ((build_of self.old).storage cell.word.number cell.column.number)) 43 ∷ []) result }
+        ensures only_this_defect_planted { MatchResult result (λ _. build_of self.new ≡ with_storage cell.word.number cell.column.number (storage_with defect) (build_of self.old)) (λ _. self.new ≡ self.old) }
+        ensures only_held_bit_settled { MatchResult result (λ _. state_of self.new ≡ settled cell.word.number cell.column.number (storage_with defect) (state_of self.old)) (λ _. self.new ≡ self.old) }
         ensures later_records_stay { KeepsLater self.old self.new }
     {
-        if !self.has_cell(word, column) {
+        if !self.has_cell(cell) {
             return Err(Fault::of_call(Reason::OutsideArray));
         }
-        let at = word.number as usize;
-        match self.records[at].storage(column) {
-            Storage::Good => {
-                self.records[at].plant_storage(column, defect);
-                Ok(())
-            }
-            _ => Err(Fault::of_call(Reason::DefectRepeated)),
+        let at = cell.word.number as usize;
+        if self.records[at].storage(cell.column) != Storage::Good {
+            return Err(Fault::of_call(Reason::DefectRepeated));
         }
+        self.records[at].plant_storage(cell.column, defect);
+        Ok(())
     }
 
     // Puts a pair into a cell's wrong set.
-    pub fn plant_pair(
-        &mut self,
-        word: WordIndex,
-        column: ColumnIndex,
-        pair: Pair,
-    ) -> Result<(), Fault>
-        ensures asks_place_then_pair { Asks (ask (has_cell (build_of self.old) word.number column.number) 42 ∷ ask (not ((build_of self.old).wrong word.number column.number pair.held pair.comparand)) 43 ∷ []) result }
-        ensures only_this_pair_planted { MatchResult result (λ _. build_of self.new ≡ with_pair word.number column.number pair.held pair.comparand (build_of self.old)) (λ _. self.new ≡ self.old) }
+    pub fn plant_pair(&mut self, cell: CellIndex, pair: Pair) -> Result<(), Fault>
+        ensures asks_place_then_pair { Asks (ask (has_cell (build_of self.old) cell.word.number cell.column.number) 42 ∷ ask (not ((build_of self.old).wrong cell.word.number cell.column.number pair.held pair.comparand)) 43 ∷ []) result }
+        ensures only_this_pair_planted { MatchResult result (λ _. build_of self.new ≡ with_pair cell.word.number cell.column.number pair.held pair.comparand (build_of self.old)) (λ _. self.new ≡ self.old) }
         ensures state_stays { MatchResult result (λ _. state_of self.new ≡ state_of self.old) (λ _. self.new ≡ self.old) }
         ensures later_records_stay { KeepsLater self.old self.new }
     {
-        if !self.has_cell(word, column) {
+        if !self.has_cell(cell) {
             return Err(Fault::of_call(Reason::OutsideArray));
         }
-        let at = word.number as usize;
-        if self.records[at].is_wrong(column, pair) {
+        let at = cell.word.number as usize;
+        if self.records[at].wrong_set(cell.column).contains(pair) {
             return Err(Fault::of_call(Reason::DefectRepeated));
         }
-        self.records[at].plant_pair(column, pair);
+        self.records[at].plant_pair(cell.column, pair);
         Ok(())
     }
 
@@ -72,7 +60,7 @@ impl PlaneArray {
         ensures only_this_mark_cleared { MatchResult result (λ _. state_of self.new ≡ unmarked word.number (state_of self.old)) (λ _. self.new ≡ self.old) }
         ensures later_records_stay { KeepsLater self.old self.new }
     {
-        if word.number >= self.words {
+        if word.number >= self.size.words {
             return Err(Fault::of_call(Reason::OutsideArray));
         }
         let at = word.number as usize;

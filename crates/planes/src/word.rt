@@ -2,18 +2,18 @@
 ghost use Rattle.std.specs.Prelude.{◌≡◌, ℕ, ◌<◌, ◌≤◌, Bool, true, false, ◌&&◌, ◌||◌, if◌then◌else◌, ◌==◌, nat_eq};
 ghost use Rattle.cam.specs.Bits.{bit};
 ghost use Rattle.cam.specs.Model.{written_bit, word_matches, value, mark_after_write};
-ghost use Rattle.cam.specs.Defects.{storage_with, settled_bit, is_pair};
+ghost use Rattle.cam.specs.Defects.{storage_with, settled_bit, is_pair, in_set};
 ghost use Rattle.cam.specs.declared.defect.Storage.TheVariants.{Good};
 ghost use Rattle.planes.specs.Word.{blank_record, storage_of, wrong_of, shown, mark_of, defects};
 
 use cam::bits::{bit_is_set, low_ones};
-use cam::defect::{Pair, Storage, StorageDefect};
+use cam::defect::{Pair, Storage, StorageDefect, WrongSet};
 use cam::index::ColumnIndex;
 
 // Bit j of each number belongs to column j: the held bits, the columns with each storage defect, and those with each
 // pair in their wrong set. A stuck mark counts as clear, an sa0 cell as 0 and an sa1 cell as 1, whatever is stored;
 // where several storage planes have a column, the first of sa0, sa1, norise and nofall counts.
-#[derive(Clone, Copy)]
+#[derive(Clone, Copy, Default)]
 pub struct WordRecord {
     pub held: u64,
     pub mark: bool,
@@ -33,19 +33,7 @@ impl WordRecord {
     pub fn blank() -> WordRecord
         ensures no_bit_mark_or_defect { result ≡ blank_record }
     {
-        WordRecord {
-            held: 0,
-            mark: false,
-            stuck: false,
-            sa0: 0,
-            sa1: 0,
-            norise: 0,
-            nofall: 0,
-            wrong00: 0,
-            wrong01: 0,
-            wrong11: 0,
-            wrong10: 0,
-        }
+        WordRecord::default()
     }
 
     // Writes each column whose bit in `mask` is 0, as its storage allows, and sets the mark.
@@ -111,17 +99,17 @@ impl WordRecord {
         }
     }
 
-    // Whether a pair is in the wrong set of a column.
-    pub(crate) fn is_wrong(&self, column: ColumnIndex, pair: Pair) -> bool
-        ensures pair_in_wrong_set { result ≡ wrong_of self.now column.number pair.held pair.comparand }
+    // The wrong set of a column.
+    pub(crate) fn wrong_set(&self, column: ColumnIndex) -> WrongSet
+        ensures wrong_set_of_column { (h b : Bool) → in_set result h b ≡ wrong_of self.now column.number h b }
     {
-        let plane = match (pair.held, pair.comparand) {
-            (false, false) => self.wrong00,
-            (false, true) => self.wrong01,
-            (true, true) => self.wrong11,
-            (true, false) => self.wrong10,
-        };
-        bit_is_set(plane, column.number)
+        let place = column.number;
+        WrongSet {
+            has00: bit_is_set(self.wrong00, place),
+            has01: bit_is_set(self.wrong01, place),
+            has11: bit_is_set(self.wrong11, place),
+            has10: bit_is_set(self.wrong10, place),
+        }
     }
 
     // Gives a column that stores well a storage defect; an sa0 cell then holds 0, an sa1 cell 1.

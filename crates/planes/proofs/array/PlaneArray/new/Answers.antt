@@ -8,8 +8,8 @@ use Rattle.planes.proofs.array.PlaneArray.new.Goals as goal
 pub returns : goal.returns
 returns c =
     let v = c.args.records in
-    let n = c.args.words in
-    let w = c.args.width in
+    let n = c.args.size.words in
+    let w = c.args.size.width in
     let fits : n ≤ length (vec_items v) = omega (arith, v.ok.0) in
     let ends : vec_items (with_items v c.blank_first.new.records) ≡ blanked n (vec_items v) =
     with_items_is v c.blank_first.new.records (omega arith)

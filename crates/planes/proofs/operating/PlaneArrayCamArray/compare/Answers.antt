@@ -1,5 +1,10 @@
-use Rattle.std.proofs.Common.{◌-◌, ◌≤◌, length, take, vec_items, refl, ap, ◌∙◌, arith}
-use Rattle.cam.specs.Model.{any_below}
+use Rattle.std.proofs.Common.{◌≤◌, Bool, length, take, vec_items, refl, ap, ◌∙◌, arith, rules, tests}
+use Rattle.std.proofs.lemmas.Iterator.{YieldsList-from_slice}
+use Rattle.std.proofs.lemmas.Iterator.Search.{any_from_yields_List}
+use Rattle.cam.specs.Model.{word_matches, any_below}
+use Rattle.cam.proofs.Below.{any_of_list}
+use Rattle.planes.specs.declared.word.WordRecord.{WordRecord}
+use Rattle.planes.specs.Word.{wrong_of, shown, mark_of, blank_record}
 use Rattle.planes.specs.Planes.{state_from, matches_in}
 use Rattle.planes.proofs.Rows.{some_match}
 use Rattle.planes.proofs.operating.PlaneArrayCamArray.compare.Goals as goal
@@ -8,15 +13,17 @@ pub returns : goal.returns
 returns c =
     let s = c.args.self.now in
     let rs = vec_items s.records in
-    let n = s.words in
-    let w = s.width in
+    let n = s.size.words in
+    let w = s.size.width in
     let p = c.args.pattern in
     let m = c.args.mask in
     let fits : n ≤ length rs = omega (arith, s.records.ok.0) in
+    let test : WordRecord → Bool = λ r. word_matches w (wrong_of r) p m (mark_of r) (shown w r) in
     record {
-      some_word_matches = c.any_matches.ensures.some_word
-          ∙ ap (λ xs. any_below (length (take (n - 0) xs)) (matches_in w p m (take (n - 0) xs))) c.as_slice.ensures.value
-          ∙ some_match n (n - 0) w p m rs (omega arith) fits;
+      some_word_matches = any_from_yields_List test _ _ c.any.result c.any.ensures.ran (YieldsList-from_slice (take n c.as_slice.result.now) cc) (λ x b q k. search (rules, tests))
+          ∙ any_of_list test blank_record (take n c.as_slice.result.now)
+          ∙ ap (λ xs. any_below (length (take n xs)) (matches_in w p m (take n xs))) c.as_slice.ensures.value
+          ∙ some_match n w p m rs fits;
       only_counted = ap (state_from n w rs) c.one_more-self.ensures.next;
       build_stays = refl;
     }

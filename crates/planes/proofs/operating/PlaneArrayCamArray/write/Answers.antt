@@ -9,8 +9,8 @@ pub returns : goal.returns
 returns c =
     let s = c.args.self.now in
     let rs = vec_items s.records in
-    let n = s.words in
-    let w = s.width in
+    let n = s.size.words in
+    let w = s.size.width in
     let a = c.args.word.number in
     let p = c.args.pattern in
     let m = c.args.mask in
