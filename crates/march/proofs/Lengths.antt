@@ -1,11 +1,11 @@
 -- How many steps the schedule of a test has.
-use Rattle.std.proofs.Common.{◌≡◌, ℕ, zero, suc, ◌+◌, ◌*◌, ◌≤◌, min, List, [], ◌∷◌, length, refl, mul-zero, mul-suc, arith, length-append}
+use Rattle.std.proofs.Common.{◌≡◌, ℕ, zero, suc, ◌+◌, ◌*◌, ◌≤◌, List, [], ◌∷◌, length, refl, mul-zero, mul-suc, arith, length-append}
 use lib.ListN.{length-map}
-use Rattle.std.proofs.lemmas.List.{length-take}
 use Rattle.march.specs.declared.element.Element.{Element as ElementRecord}
 use Rattle.march.specs.declared.element.Element.TheVariants.{Up, Down, Columns}
 use Rattle.cam.specs.Machine.{upward}
 use Rattle.march.specs.Tests.{Element, up, down, columns, visits, visit, steps_of, schedule, meant}
+use Rattle.march.proofs.Lists.{listed_few}
 
 pub upward_length : {X : Type 0} (c n : ℕ) (f : ℕ → List X) → ((k : ℕ) → length (f k) ≡ c) → length (upward n f) ≡ c * n
 upward_length c zero f h = omega (arith, mul-zero c)
@@ -34,6 +34,6 @@ schedule_length (e ∷ es) N W =
 
 -- an element of the code has at most eight operations
 pub per_visit_few : (r : ElementRecord) → per_visit (meant r) ≤ 8
-per_visit_few (Up os) = omega (arith, length-take (min os.count 8) os.items)
-per_visit_few (Down os) = omega (arith, length-take (min os.count 8) os.items)
-per_visit_few (Columns cs) = omega (arith, length-take (min cs.count 8) cs.items)
+per_visit_few (Up os) = omega (arith, listed_few os)
+per_visit_few (Down os) = omega (arith, listed_few os)
+per_visit_few (Columns cs) = omega (arith, listed_few cs)

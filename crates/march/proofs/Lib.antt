@@ -1,4 +1,5 @@
 pub mod Lists
+pub mod Going
 pub mod Masking
 pub mod Lengths
 pub mod Sweeps

@@ -7,3 +7,4 @@ pub mod Letters
 pub mod Names
 pub mod Building
 pub mod Table
+pub mod Going

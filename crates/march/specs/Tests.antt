@@ -51,6 +51,10 @@ visit N W (up os) v = map (at_word W v) os
 visit N W (down os) v = map (at_word W (N - 1 - v)) os
 visit N W (columns cs) v = map (on_column W v) cs
 
+-- the steps of visit v, where the element makes that visit
+abbrev pub steps_in_visit : ℕ → ℕ → Element → ℕ → List Step
+steps_in_visit N W e v = cond (nat_lt v (visits N W e)) (visit N W e v) []
+
 -- step o of visit v, where there is one
 abbrev pub step_at : ℕ → ℕ → Element → ℕ → ℕ → Option Step
 step_at N W e v o = cond (nat_lt v (visits N W e)) (slice_get (visit N W e v) o) None

@@ -1,7 +1,5 @@
 // Elements of a test, and the steps of their visits.
-ghost use Rattle.std.specs.Prelude.{◌≡◌, min, map};
-ghost use Rattle.std.specs.List.{slice_get};
-ghost use Rattle.march.specs.Lists.{listed};
+ghost use Rattle.std.specs.Prelude.{◌≡◌, min};
 ghost use Rattle.march.specs.Tests.{at_word, on_column, visits, step_at, meant};
 
 use crate::few::Few;
@@ -9,9 +7,10 @@ use crate::step::{Expectation, Step};
 use cam::bits::{all_but_column, equal_bits};
 use cam::index::{ColumnIndex, WordIndex};
 use cam::operation::Operation;
+use cam::size::Size;
 
 // A compare of equal bits, and whether a hit is expected.
-#[derive(Clone, Copy)]
+#[derive(Clone, Copy, Default)]
 pub struct Comparison {
     pub bit: bool,
     pub hit: bool,
@@ -33,11 +32,12 @@ impl Comparison {
 }
 
 // An operation of a test: it writes equal bits, reads and expects them, compares them, or erases.
-#[derive(Clone, Copy)]
+#[derive(Clone, Copy, Default)]
 pub enum TestOperation {
     Write(bool),
     Read(bool),
     Compare(Comparison),
+    #[default]
     Erase,
 }
 
@@ -78,78 +78,49 @@ impl TestOperation {
 // compares on each. A columns element can hold nothing but compares.
 #[derive(Clone, Copy)]
 pub enum Element {
-    Up(Few<TestOperation>),
-    Down(Few<TestOperation>),
-    Columns(Few<Comparison>),
+    Up(Few<TestOperation, 8>),
+    Down(Few<TestOperation, 8>),
+    Columns(Few<Comparison, 8>),
 }
 
 impl Element {
     // How many visits the element makes on an array of this size; a width past 64 counts as 64.
-    pub fn visits(&self, words: u16, width: u8) -> u16
-        ensures visit_count { result ≡ visits words (min width 64) (meant self.now) }
+    pub fn visits(&self, size: Size) -> u16
+        ensures visit_count { result ≡ visits size.words (min size.width 64) (meant self.now) }
     {
         match self {
-            Element::Up(_) => words,
-            Element::Down(_) => words,
-            Element::Columns(_) => width.min(64) as u16,
+            Element::Up(_) | Element::Down(_) => size.words,
+            Element::Columns(_) => size.width.min(64) as u16,
         }
     }
 
     // Step `operation` of visit `visit`, both counted from 0, where there is one.
-    pub fn step(&self, words: u16, width: u8, visit: u16, operation: u8) -> Option<Step>
-        ensures step_of_visit { result ≡ step_at words (min width 64) (meant self.now) visit operation }
+    pub fn step(&self, size: Size, visit: u16, operation: u8) -> Option<Step>
+        ensures step_of_visit { result ≡ step_at size.words (min size.width 64) (meant self.now) visit operation }
     {
-        if visit >= self.visits(words, width) {
+        if visit >= self.visits(size) {
             return None;
         }
+        let width = size.width;
         match self {
-            Element::Up(operations) => step_at_word(
-                operations,
-                operation,
-                WordIndex { number: visit },
-                width,
-            ),
+            Element::Up(operations) => {
+                let word = WordIndex { number: visit };
+                operations.get(operation).map(|o| o.at_word(word, width))
+            }
             Element::Down(operations) => {
                 let word = WordIndex {
-                    number: words.saturating_sub(1).saturating_sub(visit),
+                    number: size.words.saturating_sub(1).saturating_sub(visit),
                 };
-                step_at_word(operations, operation, word, width)
+                operations.get(operation).map(|o| o.at_word(word, width))
             }
             Element::Columns(comparisons) => {
-                step_on_column(
-                    comparisons,
-                    operation,
-                    ColumnIndex {
-                        number: visit as u8,
-                    },
-                    width,
-                )
+                let column = ColumnIndex {
+                    number: visit as u8,
+                };
+                comparisons
+                    .get(operation)
+                    .map(|c| c.on_column(column, width))
             }
         }
-    }
-}
-
-// Operation `at` of a list, at a word.
-fn step_at_word(operations: &Few<TestOperation>, at: u8, word: WordIndex, width: u8) -> Option<Step>
-    ensures step_of_list { result ≡ slice_get (map (at_word (min width 64) word.number) (listed operations.now)) at }
-{
-    match operations.get(at) {
-        Some(operation) => Some(operation.at_word(word, width)),
-        None => None,
-    }
-}
-
-// Compare `at` of a list, on a column.
-fn step_on_column(
-    comparisons: &Few<Comparison>,
-    at: u8,
-    column: ColumnIndex,
-    width: u8,
-) -> Option<Step>
-    ensures step_of_list { result ≡ slice_get (map (on_column (min width 64) column.number) (listed comparisons.now)) at }
-{
-    match comparisons.get(at) {
-        Some(comparison) => Some(comparison.on_column(column, width)),
-        None => None,
     }
 }

@@ -8,4 +8,5 @@ pub mod name;
 pub mod naming;
 pub mod operations;
 pub mod step;
+pub mod steps;
 pub mod test;

@@ -1,12 +1,14 @@
 // The name of a test. Its methods stand in another file, since they cite definitions that name it.
-ghost use Rattle.std.specs.Prelude.{◌≡◌, ◌≤◌, true, take};
+ghost use Rattle.std.specs.Prelude.{◌≡◌, ◌≤◌, true};
 ghost use Rattle.march.specs.Letters.{is_name};
+ghost use Rattle.march.specs.Lists.{listed};
 
-// 1 to 16 small letters and digits: the first `count` of `bytes`.
+use crate::few::Few;
+
+// 1 to 16 small letters and digits.
 #[derive(Clone, Copy)]
 pub struct Name {
-    pub(crate) bytes: [u8; 16],
-    pub(crate) count: u8,
-    ghost sixteen_at_most: { count ≤ 16 },
-    ghost allowed: { is_name (take count bytes) ≡ true },
+    pub(crate) letters: Few<u8, 16>,
+    ghost sixteen_at_most: { letters.count ≤ 16 },
+    ghost allowed: { is_name (listed letters) ≡ true },
 }

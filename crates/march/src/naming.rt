@@ -4,6 +4,7 @@ ghost use Rattle.cam.specs.Refusals.{Asks, ask};
 ghost use Rattle.march.specs.Letters.{is_letter_or_digit, is_name};
 ghost use Rattle.march.specs.Names.{letters_of};
 
+use crate::few::Few;
 use crate::name::Name;
 use cam::fault::{Fault, Reason};
 
@@ -11,25 +12,13 @@ use cam::fault::{Fault, Reason};
 pub fn is_letter_or_digit(byte: u8) -> bool
     ensures letter_or_digit { result ≡ is_letter_or_digit byte }
 {
-    match byte {
-        b'a'..=b'z' => true,
-        b'0'..=b'9' => true,
-        _ => false,
-    }
+    byte.is_ascii_lowercase() || byte.is_ascii_digit()
 }
 
 fn is_name(text: &[u8]) -> bool
     ensures allowed_name { result ≡ is_name text.now }
 {
-    if text.len() < 1 || text.len() > 16 {
-        return false;
-    }
-    for byte in text {
-        if !is_letter_or_digit(*byte) {
-            return false;
-        }
-    }
-    true
+    !text.is_empty() && text.len() <= 16 && text.iter().all(|byte| is_letter_or_digit(*byte))
 }
 
 impl Name {
@@ -41,11 +30,8 @@ impl Name {
         if !is_name(text) {
             return Err(Fault::of_call(Reason::NameNotAllowed));
         }
-        let mut bytes = [0u8; 16];
-        bytes[0..text.len()].copy_from_slice(text);
         Ok(Name {
-            bytes,
-            count: text.len() as u8,
+            letters: Few::of(text),
         })
     }
 
@@ -53,6 +39,6 @@ impl Name {
     pub fn as_bytes(&self) -> &[u8]
         ensures letters { result.now ≡ letters_of self.now }
     {
-        &self.bytes[0..self.count as usize]
+        self.letters.as_slice()
     }
 }

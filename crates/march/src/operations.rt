@@ -2,26 +2,30 @@
 ghost use Rattle.std.specs.Prelude.{◌≡◌, length, MatchResult};
 ghost use Rattle.std.specs.List.{slice_get};
 ghost use Rattle.cam.specs.Refusals.{Asks};
+ghost use Rattle.march.specs.declared.operations.Order.TheVariants.{Up};
 ghost use Rattle.march.specs.Tests.{meant};
 ghost use Rattle.march.specs.Building.{opened, order_of, operations_of, longer, element_questions};
 
-use crate::element::{Comparison, Element, TestOperation};
+use crate::element::{Element, TestOperation};
 use crate::few::Few;
 use cam::fault::{Fault, Reason};
 
 // What an element visits: the words upward or downward, or the columns upward.
-#[derive(Clone, Copy)]
+#[derive(Clone, Copy, PartialEq, Eq)]
 pub enum Order {
     Up,
     Down,
     Columns,
 }
 
-// fills the places of a list past its count
-const ANY: Comparison = Comparison {
-    bit: false,
-    hit: false,
-};
+// An upward element that has no operation yet.
+impl Default for Element {
+    ghost is_default = { λ element. meant element ≡ opened Up };
+
+    fn default() -> Element {
+        Element::opened(Order::Up)
+    }
+}
 
 impl Element {
     // An element that has no operation yet.
@@ -29,18 +33,9 @@ impl Element {
         ensures no_operation { meant result ≡ opened order }
     {
         match order {
-            Order::Up => Element::Up(Few {
-                items: [TestOperation::Erase; 8],
-                count: 0,
-            }),
-            Order::Down => Element::Down(Few {
-                items: [TestOperation::Erase; 8],
-                count: 0,
-            }),
-            Order::Columns => Element::Columns(Few {
-                items: [ANY; 8],
-                count: 0,
-            }),
+            Order::Up => Element::Up(Few::default()),
+            Order::Down => Element::Down(Few::default()),
+            Order::Columns => Element::Columns(Few::default()),
         }
     }
 
@@ -58,8 +53,7 @@ impl Element {
         ensures how_many_operations { result ≡ length (operations_of (meant self.now)) }
     {
         match self {
-            Element::Up(operations) => operations.len(),
-            Element::Down(operations) => operations.len(),
+            Element::Up(operations) | Element::Down(operations) => operations.len(),
             Element::Columns(comparisons) => comparisons.len(),
         }
     }
@@ -69,12 +63,8 @@ impl Element {
         ensures operation_at_place { result ≡ slice_get (operations_of (meant self.now)) at }
     {
         match self {
-            Element::Up(operations) => operations.get(at),
-            Element::Down(operations) => operations.get(at),
-            Element::Columns(comparisons) => match comparisons.get(at) {
-                Some(comparison) => Some(TestOperation::Compare(comparison)),
-                None => None,
-            },
+            Element::Up(operations) | Element::Down(operations) => operations.get(at),
+            Element::Columns(comparisons) => comparisons.get(at).map(TestOperation::Compare),
         }
     }
 
@@ -87,6 +77,7 @@ impl Element {
             return Err(Fault::of_call(Reason::TooManyOperations));
         }
         match self {
+            // one arm for both: it stays open which of the two the longer list is in
             Element::Up(operations) => operations.push(operation),
             Element::Down(operations) => operations.push(operation),
             Element::Columns(comparisons) => match operation {

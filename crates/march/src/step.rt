@@ -6,7 +6,8 @@ ghost use Rattle.march.specs.Steps.{meets, missing};
 use cam::array::CamArray;
 use cam::operation::{Answer, Operation, operate};
 
-// What is expected of an answer: nothing, these held bits, or this hit.
+// What is expected of an answer: nothing, these held bits, or this hit. It has the shape of an answer and is a type of
+// its own all the same, so that what is expected of an array is never taken for what the array answered.
 #[derive(Clone, Copy)]
 pub enum Expectation {
     Nothing,
@@ -22,8 +23,7 @@ impl Expectation {
             (Expectation::Nothing, _) => true,
             (Expectation::Bits(expected), Answer::Bits(held)) => held == expected,
             (Expectation::Hit(expected), Answer::Hit(hit)) => hit == expected,
-            (Expectation::Bits(_), _) => false,
-            (Expectation::Hit(_), _) => false,
+            _ => false,
         }
     }
 }

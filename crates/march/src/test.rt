@@ -9,16 +9,16 @@ ghost use Rattle.march.specs.Building.{opened, last_longer, operation_questions,
 ghost use Rattle.march.specs.Table.{elements_of, name_of};
 
 use crate::element::{Element, TestOperation};
+use crate::few::Few;
 use crate::name::Name;
 use crate::operations::Order;
 use cam::fault::{Fault, Reason};
 
-// A test that may still be growing: the first `count` of `elements`, and all sixteen where `count` is larger.
+// A test that may still be growing.
 #[derive(Clone, Copy)]
 pub struct Test {
     name: Name,
-    elements: [Element; 16],
-    count: u8,
+    elements: Few<Element, 16>,
 }
 
 impl Test {
@@ -29,8 +29,7 @@ impl Test {
     {
         Test {
             name,
-            elements: [Element::opened(Order::Up); 16],
-            count: 0,
+            elements: Few::default(),
         }
     }
 
@@ -40,16 +39,12 @@ impl Test {
         ensures these_elements { IfOk result (λ test. elements_of test ≡ map meant elements.now) }
         ensures its_name { IfOk result (λ test. name_of test ≡ letters_of name) }
     {
-        let count = elements.len();
-        if count > 16 {
+        if elements.len() > 16 {
             return Err(Fault::of_call(Reason::TooManyElements));
         }
-        let mut table = [Element::opened(Order::Up); 16];
-        table[0..count].copy_from_slice(elements);
         Ok(Test {
             name,
-            elements: table,
-            count: count as u8,
+            elements: Few::of(elements),
         })
     }
 
@@ -63,26 +58,20 @@ impl Test {
     pub fn elements(&self) -> &[Element]
         ensures all_elements { map meant result.now ≡ elements_of self.now }
     {
-        &self.elements[0..self.count.min(16) as usize]
+        self.elements.as_slice()
     }
 
     pub fn element_count(&self) -> u8
         ensures how_many_elements { result ≡ length (elements_of self.now) }
     {
-        self.elements().len() as u8
+        self.elements.len()
     }
 
     // An element by its number, counted from 0.
     pub fn element(&self, at: u8) -> Option<Element>
         ensures element_at_place { option_map meant result ≡ slice_get (elements_of self.now) at }
     {
-        let elements = self.elements();
-        let at = at as usize;
-        if at < elements.len() {
-            Some(elements[at])
-        } else {
-            None
-        }
+        self.elements.get(at)
     }
 
     // Opens a new element at the end, with no operation yet. A test has at most sixteen (31).
@@ -91,12 +80,10 @@ impl Test {
         ensures one_more_at_the_end { MatchResult result (λ _. elements_of self.new ≡ elements_of self.old ++ (opened order ∷ [])) (λ _. self.new ≡ self.old) }
         ensures name_stays { name_of self.new ≡ name_of self.old }
     {
-        let count = self.element_count();
-        if count >= 16 {
+        if self.element_count() >= 16 {
             return Err(Fault::of_call(Reason::TooManyElements));
         }
-        self.elements[count as usize] = Element::opened(order);
-        self.count = count + 1;
+        self.elements.push(Element::opened(order));
         Ok(())
     }
 
@@ -111,7 +98,7 @@ impl Test {
         if count == 0 {
             return Err(Fault::of_call(Reason::NothingInside));
         }
-        self.elements[count as usize - 1].add(operation)
+        self.elements.items[count as usize - 1].add(operation)
     }
 
     // Whether the test is whole: 1 to 16 elements of 1 to 8 operations each.
@@ -119,14 +106,6 @@ impl Test {
         ensures decides_whole { result ≡ is_whole (elements_of self.now) }
     {
         let elements = self.elements();
-        if elements.len() == 0 {
-            return false;
-        }
-        for element in elements {
-            if element.operation_count() == 0 {
-                return false;
-            }
-        }
-        true
+        !elements.is_empty() && elements.iter().all(|element| element.operation_count() > 0)
     }
 }

@@ -23,10 +23,10 @@ pub returns : goal.returns
 returns c =
     let t = c.args.self.now in
     let n : ℕ = c.element_count-count.result in
-    let sixteen : length t.elements ≡ 16 = search rules in
+    let sixteen : length t.elements.items ≡ 16 = search rules in
     let some : n ≡ 0 → ⊥ = c.if-count-eq0.false in
-    let counted : n ≡ min t.count 16 = c.element_count-count.ensures.how_many_elements ∙ elements_counted t sixteen in
-    let last : min t.count 16 ≡ (n - 1) + 1 = omega arith in
-    let inside : n - 1 < length t.elements = omega (arith, elements_few t) in
+    let counted : n ≡ min t.elements.count 16 = c.element_count-count.ensures.how_many_elements ∙ elements_counted t sixteen in
+    let last : min t.elements.count 16 ≡ (n - 1) + 1 = omega arith in
+    let inside : n - 1 < length t.elements.items = omega (arith, elements_few t) in
     let both = added t (n - 1) c.args.operation c.add.result _ _ last inside c.add.ensures.asks_in_order c.add.ensures.one_more_at_the_end in
     record { asks_in_order = both.0; last_element_longer = both.1; name_stays = refl }
