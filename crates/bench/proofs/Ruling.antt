@@ -1,8 +1,9 @@
 -- The rules hold of a new bench, and each call keeps them.
-use Rattle.std.proofs.Common.{◌≡◌, ℕ, ◌+◌, ◌*◌, ◌<◌, ◌≤◌, true, false, not, eqb, ◌⊎◌, ◌↔◌, List, [], ◌++◌, length, get_or, take, drop, sym, refl, ap, ◌∙◌, subst, ap₂, inl, inr, ⊎_elim, mul-zero, zero-mul, mul-one, mul-add, arith, take-add}
+use Rattle.std.proofs.Common.{◌≡◌, ℕ, ◌+◌, ◌*◌, ◌<◌, ◌≤◌, true, false, is_some, is_none, Some, None, Option, eqb, ◌⊎◌, ◌↔◌, List, [], ◌++◌, length, get_or, take, drop, sym, refl, ap, ◌∙◌, subst, ap₂, inl, inr, ⊎_elim, mul-zero, zero-mul, mul-one, mul-add, arith, take-add}
 use Rattle.std.proofs.lemmas.List.{length-drop, length-take-le, drop-drop, take_all, take_more}
 use Rattle.std.proofs.lemmas.Nat.{mul-le}
-use Rattle.std.proofs.lemmas.Bool.{cases_eq, eqb-true, eqb-false, not-true, cond-true, cond-false, both_ways}
+use Rattle.std.specs.Option.{unwrap_or}
+use Rattle.std.proofs.lemmas.Bool.{true≢false, cases_eq, eqb-true, eqb-false, not-true, cond-true, cond-false, both_ways}
 use Rattle.std.proofs.lemmas.Bool.Decides.{nat_tests as tells}
 use Rattle.cam.specs.Model.{Build, State, Steady, WellFormed, tally_cap}
 use Rattle.cam.specs.Defects.{Sound}
@@ -30,7 +31,7 @@ use Rattle.bench.specs.declared.books.Finding.{Finding}
 use Rattle.bench.specs.declared.books.Finding.TheVariants.{Open, Sound as FoundSound, Faulty, Charted}
 use Rattle.bench.specs.declared.calls.Call.{Call}
 use Rattle.bench.specs.declared.calls.Call.TheVariants.{ByHand, Start, Step, Close, Quit, Chart, Finding as AskFinding}
-use Rattle.bench.specs.Books.{finding_number, finding_count, more, new_books, handled, started, with_run, found, closed, stopped, charted}
+use Rattle.bench.specs.Books.{finding_number, finding_count, more, new_books, run_in_hand, handled, started, with_run, found, closed, stopped, charted}
 use Rattle.bench.specs.Questions.{limit, run_length, chart_length, hand_questions, start_questions, step_questions, close_questions, chart_questions}
 use Rattle.bench.specs.Calls.{Desk, desk, Performs, Performed, none, then}
 use Rattle.bench.specs.Rules.{Rules}
@@ -47,9 +48,8 @@ pub record UnderWay (B : Build) (S : State) (r : RunState) : Type 0 where
 -- What holds of every bench that calls have led to.
 pub record Holds (B : Build) (made : ℕ) (D : Desk) : Type 0 where
   pub rules : Rules B made D.state D.books
-  pub resting : D.books.running ≡ false → D.books.run ≡ at_start
-  pub running : D.books.running ≡ true → UnderWay B D.state D.books.run
-  pub room : D.books.running ≡ true → D.state.tally + run_length B ≤ limit + D.books.run.place
+  pub running : is_some D.books.run ≡ true → UnderWay B D.state (run_in_hand D.books)
+  pub room : is_some D.books.run ≡ true → D.state.tally + run_length B ≤ limit + (run_in_hand D.books).place
 
 -- what decides a finding
 closed_of : (B : Build) (f : Finding) → (finding_number f ≡ 1 → Sound B) → (finding_number f ≡ 2 → Sound B → ⊥)
@@ -68,7 +68,6 @@ new_holds B S =
         open_exactly_before = (λ e. (refl, refl), λ e. refl);
         tally_adds_up = omega (arith, mul-zero (run_length B), mul-zero (chart_length B));
       };
-      resting = λ e. refl;
       running = λ e. absurd (both_ways false refl e);
       room = λ e. absurd (both_ways false refl e);
     }
@@ -86,31 +85,31 @@ product_more k c t h l =
 
 -- what the questions of an operation by hand have in common
 hand_asked : (B : Build) (S : State) (b : Books) (o : Operation) → first_no (hand_questions B S b o) ≡ 0
-    → (not b.running ≡ true) × (S.tally + 1 ≤ limit)
+    → (is_none b.run ≡ true) × (S.tally + 1 ≤ limit)
 hand_asked B S b (Write a p m) e = (grind (arith, tells), grind (arith, tells))
 hand_asked B S b (Read a) e = (grind (arith, tells), grind (arith, tells))
 hand_asked B S b (Compare p m) e = (grind (arith, tells), grind (arith, tells))
 hand_asked B S b (Erase a) e = (grind (arith, tells), grind (arith, tells))
 
 start_asked : (B : Build) (S : State) (b : Books) → first_no (start_questions B S b) ≡ 0
-    → (not b.running ≡ true) × (S.tally + run_length B ≤ limit)
+    → (is_none b.run ≡ true) × (S.tally + run_length B ≤ limit)
 start_asked B S b e = (grind (arith, tells), grind (arith, tells))
 
-step_asked : (b : Books) (ticket : ℕ) → first_no (step_questions b ticket) ≡ 0 → b.running ≡ true
+step_asked : (b : Books) (ticket : ℕ) → first_no (step_questions b ticket) ≡ 0 → is_some b.run ≡ true
 step_asked b ticket e = grind (arith, tells)
 
 close_asked : (B : Build) (b : Books) (ticket : ℕ) → first_no (close_questions B b ticket) ≡ 0
-    → (b.running ≡ true) × (b.run.place ≡ run_length B)
+    → (is_some b.run ≡ true) × ((run_in_hand b).place ≡ run_length B)
 close_asked B b ticket e = (grind (arith, tells), grind (arith, tells))
 
 chart_asked : (B : Build) (S : State) (b : Books) (bytes : ℕ) → first_no (chart_questions B S b bytes) ≡ 0
-    → (not b.running ≡ true) × (S.tally + chart_length B ≤ limit)
+    → (is_none b.run ≡ true) × (S.tally + chart_length B ≤ limit)
 chart_asked B S b bytes e = (grind (arith, tells), grind (arith, tells))
 
 -- the two rules that what was found has to meet, for any new tally
 module _ (B : Build) (made : ℕ) (S : State) (b : Books) (old : Rules B made S b) where
   same_finding : (T : State) (c : Books) → c.finding ≡ b.finding → c.closes ≡ b.closes → c.charts ≡ b.charts
-      → T.tally ≡ made + c.hand + run_length B * c.closes + chart_length B * c.charts + c.quits + c.run.place
+      → T.tally ≡ made + c.hand + run_length B * c.closes + chart_length B * c.charts + c.quits + (run_in_hand c).place
       → Rules B made T c
   same_finding T c f l h t =
       record {
@@ -131,15 +130,18 @@ hand_holds B made D o formed holds asked =
     let S = D.state in
     let b = D.books in
     let both = hand_asked B S b o asked in
-    let idle : b.running ≡ false = not-true b.running both.0 in
+    let idle : is_some b.run ≡ false = not-true (is_some b.run) both.0 in
     let sum = holds.rules.tally_adds_up in
     record {
       rules = same_finding B made S b holds.rules (operated B o S) (handled b) refl refl refl
           (omega (arith, tally_more B o S, both.1, sum));
-      resting = holds.resting;
-      running = λ e. absurd (both_ways b.running idle e);
-      room = λ e. absurd (both_ways b.running idle e);
+      running = λ e. absurd (both_ways (is_some b.run) idle e);
+      room = λ e. absurd (both_ways (is_some b.run) idle e);
     }
+
+none_at_start : (o : Option RunState) → is_some o ≡ false → unwrap_or o at_start ≡ at_start
+none_at_start None e = refl
+none_at_start (Some r) e = absurd (true≢false e)
 
 start_holds : (B : Build) (made : ℕ) (D : Desk) → WellFormed B D.state → Holds B made D
     → first_no (start_questions B D.state D.books) ≡ 0 → Holds B made (desk D.state (started D.books))
@@ -147,11 +149,10 @@ start_holds B made D formed holds asked =
     let S = D.state in
     let b = D.books in
     let both = start_asked B S b asked in
-    let idle : b.running ≡ false = not-true b.running both.0 in
-    let at = ap (λ (r : RunState). r.place) (holds.resting idle) in
+    let idle : is_some b.run ≡ false = not-true (is_some b.run) both.0 in
+    let at = ap (λ (r : RunState). r.place) (none_at_start b.run idle) in
     record {
       rules = same_finding B made S b holds.rules S (started b) refl refl refl (omega (arith, holds.rules.tally_adds_up, at));
-      resting = λ e. absurd (both_ways true e refl);
       running = λ e. record {
         origin = S;
         steady = formed.steady;
@@ -196,25 +197,24 @@ under_way_next B n S T r s formed u w =
 
 step_holds : (B : Build) (made : ℕ) (D E : Desk) (ticket n : ℕ) → WellFormed B D.state → Holds B made D
     → first_no (step_questions D.books ticket) ≡ 0
-    → Went B n D.books.run E.books.run D.state E.state → E.books ≡ with_run E.books.run D.books → Holds B made E
+    → Went B n (run_in_hand D.books) (run_in_hand E.books) D.state E.state → E.books ≡ with_run (run_in_hand E.books) D.books → Holds B made E
 step_holds B made D E ticket n formed holds asked w e =
     let S = D.state in
     let b = D.books in
     let T = E.state in
-    let s = E.books.run in
-    let on : b.running ≡ true = step_asked b ticket asked in
+    let s = run_in_hand E.books in
+    let on : is_some b.run ≡ true = step_asked b ticket asked in
     let u = holds.running on in
-    let next = under_way_next B n S T b.run s formed u w in
+    let next = under_way_next B n S T (run_in_hand b) s formed u w in
     let ss : List TestStep = schedule B.words B.width mlt1 in
     let room = holds.room on in
     let count = length_is B.words B.width in
-    let tally = went_tally B n b.run s S T w formed.tally_within in
-    let within : b.run.place + n ≤ run_length B = omega (arith, next.1.within, next.0, count) in
+    let tally = went_tally B n (run_in_hand b) s S T w formed.tally_within in
+    let within : (run_in_hand b).place + n ≤ run_length B = omega (arith, next.1.within, next.0, count) in
     let P : Books → Type 0 = λ c. Holds B made (desk T c) in
     subst P (sym e)
     (record {
       rules = same_finding B made S b holds.rules T (with_run s b) refl refl refl (omega (arith, holds.rules.tally_adds_up, tally, next.0, room, within));
-      resting = λ f. absurd (both_ways b.running f on);
       running = λ f. next.1;
       room = λ f. omega (arith, tally, next.0, room, within);
     })
@@ -234,8 +234,8 @@ close_holds B made D ticket formed holds asked =
     let both = close_asked B b ticket asked in
     let u = holds.running both.0 in
     let ss : List TestStep = schedule B.words B.width mlt1 in
-    let n : ℕ = b.run.misses in
-    let all : take b.run.place ss ≡ ss = take_all b.run.place ss (omega (arith, both.1, length_is B.words B.width)) in
+    let n : ℕ = (run_in_hand b).misses in
+    let all : take (run_in_hand b).place ss ≡ ss = take_all (run_in_hand b).place ss (omega (arith, both.1, length_is B.words B.width)) in
     let counted : n ≡ misses B ss u.origin = u.missed ∙ ap (λ xs. misses B xs u.origin) all in
     let tells = separates B u.origin formed.some_bits u.steady in
     let sound : n ≡ 0 → Sound B = λ z. tells.0 (sym counted ∙ z) in
@@ -258,7 +258,6 @@ close_holds B made D ticket formed holds asked =
         );
         tally_adds_up = omega (arith, sum, more-closes, both.1);
       };
-      resting = λ e. refl;
       running = λ e. absurd (both_ways false refl e);
       room = λ e. absurd (both_ways false refl e);
     }
@@ -270,7 +269,6 @@ quit_holds B made D ticket formed holds =
     let b = D.books in
     record {
       rules = same_finding B made S b holds.rules S (stopped b) refl refl refl (omega (arith, holds.rules.tally_adds_up, formed.tally_within));
-      resting = λ e. refl;
       running = λ e. absurd (both_ways false refl e);
       room = λ e. absurd (both_ways false refl e);
     }
@@ -282,7 +280,7 @@ chart_holds B made D bytes formed holds asked =
     let S = D.state in
     let b = D.books in
     let both = chart_asked B S b bytes asked in
-    let idle : b.running ≡ false = not-true b.running both.0 in
+    let idle : is_some b.run ≡ false = not-true (is_some b.run) both.0 in
     let sum = holds.rules.tally_adds_up in
     let tally = tally_rises B (chart_operations B.words B.width) S formed.tally_within in
     let more-charts = product_more (chart_length B) b.charts S.tally (omega arith) formed.tally_within in
@@ -295,9 +293,8 @@ chart_holds B made D bytes formed holds asked =
         open_exactly_before = (λ e. absurd (omega arith), λ p. absurd (omega (arith, p.1)));
         tally_adds_up = omega (arith, sum, tally, more-charts, both.1, chart_length_lem B.words B.width);
       };
-      resting = holds.resting;
-      running = λ e. absurd (both_ways b.running idle e);
-      room = λ e. absurd (both_ways b.running idle e);
+      running = λ e. absurd (both_ways (is_some b.run) idle e);
+      room = λ e. absurd (both_ways (is_some b.run) idle e);
     }
 
 -- granted or refused

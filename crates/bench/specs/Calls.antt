@@ -8,7 +8,7 @@ use Rattle.chart.specs.Chart.{chart_operations, blemishes}
 use Rattle.bench.specs.declared.books.Books.{Books}
 use Rattle.bench.specs.declared.calls.Call.{Call}
 use Rattle.bench.specs.declared.calls.Call.TheVariants.{ByHand, Start, Step, Close, Quit, Chart, Finding}
-use Rattle.bench.specs.Books.{handled, started, with_run, closed, stopped, charted}
+use Rattle.bench.specs.Books.{run_in_hand, handled, started, with_run, closed, stopped, charted}
 use Rattle.bench.specs.Questions.{hand_questions, start_questions, step_questions, close_questions, quit_questions, chart_questions}
 
 -- what of a bench can change: the state of its array, and its books
@@ -35,8 +35,8 @@ Performs B M Start D E =
     Decided (start_questions B D.state D.books) (E ≡ desk D.state (started D.books)) (E ≡ D)
 Performs B M (Step ticket most) D E =
     Decided (step_questions D.books ticket)
-    (Went B (min most (length (left B.words B.width D.books.run))) D.books.run E.books.run D.state E.state
-    × (E.books ≡ with_run E.books.run D.books))
+    (Went B (min most (length (left B.words B.width (run_in_hand D.books)))) (run_in_hand D.books) (run_in_hand E.books) D.state E.state
+    × (E.books ≡ with_run (run_in_hand E.books) D.books))
     (E ≡ D)
 Performs B M (Close ticket) D E =
     Decided (close_questions B D.books ticket) (E ≡ desk D.state (closed D.books)) (E ≡ D)

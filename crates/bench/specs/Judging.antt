@@ -25,8 +25,8 @@ judged_state B S =
     after_all B (chart_operations B.words B.width) (after B (schedule B.words B.width mlt1) S)
 
 pub record Judges (B : Build) (S : State) (j : Judgement) : Type 0 where
-  pub words : j.words ≡ B.words
-  pub width : j.width ≡ B.width
+  pub words : j.size.words ≡ B.words
+  pub width : j.size.width ≡ B.width
   pub operations : j.operations ≡ run_length B
   pub finding : j.finding ≡ found (run_misses B S)
   pub sound : (finding_number j.finding ≡ 1) ↔ Sound B

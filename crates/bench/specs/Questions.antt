@@ -1,10 +1,11 @@
 -- What each call of a bench asks, in its order. B and S are the array's build and state, b the books.
-use Rattle.std.specs.Prelude.{ℕ, ◌+◌, ◌*◌, ◌^◌, Bool, not, ◌&&◌, List, [], ◌∷◌, ◌==◌, nat_le, nat_lt}
+use Rattle.std.specs.Prelude.{ℕ, ◌+◌, ◌*◌, ◌^◌, Bool, ◌&&◌, List, [], ◌∷◌, is_some, is_none, ◌==◌, nat_le, nat_lt}
 use Rattle.cam.specs.Model.{Build, State}
 use Rattle.cam.specs.Refusals.{Question, ask}
 use Rattle.cam.specs.declared.operation.Operation.{Operation}
 use Rattle.cam.specs.declared.operation.Operation.TheVariants.{Write, Read, Compare, Erase}
 use Rattle.bench.specs.declared.books.Books.{Books}
+use Rattle.bench.specs.Books.{run_in_hand}
 
 -- what a bench lets the tally and the starts come to
 abbrev pub limit : ℕ
@@ -17,8 +18,9 @@ run_length B = 11 * B.words + 2 * B.width
 abbrev pub chart_length : Build → ℕ
 chart_length B = B.words * (8 + 4 * B.width)
 
+-- no run is in hand
 abbrev pub idle : Books → Bool
-idle b = not b.running
+idle b = is_none b.run
 
 abbrev pub room : State → ℕ → Bool
 room S n = nat_le (S.tally + n) limit
@@ -39,13 +41,13 @@ start_questions B S b = ask (idle b) 51 ∷ ask (room S (run_length B) && nat_le
 
 -- a run is in hand, and the ticket is its own
 abbrev pub fits : Books → ℕ → Bool
-fits b ticket = b.running && ticket == b.starts
+fits b ticket = is_some b.run && ticket == b.starts
 
 abbrev pub step_questions : Books → ℕ → List Question
 step_questions b ticket = ask (fits b ticket) 55 ∷ []
 
 abbrev pub close_questions : Build → Books → ℕ → List Question
-close_questions B b ticket = ask (fits b ticket) 55 ∷ ask (b.run.place == run_length B) 56 ∷ []
+close_questions B b ticket = ask (fits b ticket) 55 ∷ ask ((run_in_hand b).place == run_length B) 56 ∷ []
 
 abbrev pub quit_questions : Books → ℕ → List Question
 quit_questions b ticket = ask (fits b ticket) 55 ∷ []

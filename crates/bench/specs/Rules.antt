@@ -4,7 +4,7 @@ use Rattle.cam.specs.Model.{Build, State}
 use Rattle.cam.specs.Defects.{Sound}
 use Rattle.chart.specs.Chart.{blemishes}
 use Rattle.bench.specs.declared.books.Books.{Books}
-use Rattle.bench.specs.Books.{finding_number, finding_count}
+use Rattle.bench.specs.Books.{run_in_hand, finding_number, finding_count}
 use Rattle.bench.specs.Questions.{run_length, chart_length}
 
 -- B is the array's build, `made` its tally when the bench was made, S its state now, and b the bench's books.
@@ -20,4 +20,4 @@ pub record Rules (B : Build) (made : ℕ) (S : State) (b : Books) : Type 0 where
   pub open_exactly_before : (finding_number b.finding ≡ 0) ↔ ((b.closes ≡ 0) × (b.charts ≡ 0))
   -- each operation that the array did is accounted for
   pub tally_adds_up :
-      S.tally ≡ made + b.hand + run_length B * b.closes + chart_length B * b.charts + b.quits + b.run.place
+      S.tally ≡ made + b.hand + run_length B * b.closes + chart_length B * b.charts + b.quits + (run_in_hand b).place

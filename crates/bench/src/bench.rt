@@ -4,7 +4,6 @@ ghost use Rattle.bench.specs.Books.{new_books};
 
 use crate::books::{Books, Finding};
 use cam::array::CamArray;
-use mlt1::state::RunState;
 
 // What a bench lets the tally and the starts come to.
 pub(crate) const LIMIT: u64 = 1_000_000_000_000;
@@ -29,8 +28,7 @@ impl<C: CamArray> Bench<C> {
                 closes: 0,
                 charts: 0,
                 quits: 0,
-                running: false,
-                run: RunState::start(),
+                run: None,
                 finding: Finding::Open,
             },
         }

@@ -1,9 +1,12 @@
 // What a bench keeps beside its array.
+ghost use Rattle.std.specs.Prelude.{◌≡◌};
+
+use cam::fault::Fault;
 use mlt1::state::RunState;
 
 // What is known of the array: nothing yet; what the last run that was closed found, with the number of its misses; or how
 // many blemished cells the last chart shows.
-#[derive(Clone, Copy)]
+#[derive(Clone, Copy, Debug, PartialEq, Eq)]
 pub enum Finding {
     Open,
     Sound,
@@ -12,7 +15,7 @@ pub enum Finding {
 }
 
 // The counts of a bench (operations by hand, starts, runs closed, charts, and the operations of runs that were quit),
-// whether a run is in hand, where it stands, and the finding. Without a run, `run` stands at its start.
+// the run in hand, if any, and the finding.
 #[derive(Clone, Copy)]
 pub struct Books {
     pub hand: u64,
@@ -20,8 +23,7 @@ pub struct Books {
     pub closes: u64,
     pub charts: u64,
     pub quits: u64,
-    pub running: bool,
-    pub run: RunState,
+    pub run: Option<RunState>,
     pub finding: Finding,
 }
 
@@ -30,8 +32,26 @@ pub struct Ticket {
     pub(crate) number: u64,
 }
 
-// A run was not closed: its ticket back, and why.
+impl Ticket {
+    // Lets a ticket go; only the bench itself may.
+    pub(crate) fn let_go(self) {
+        let Ticket { number: _ } = self;
+    }
+}
+
+// A run was not closed: its ticket back, and why. No `From` makes the refusal alone of it, since the ticket would be lost.
 pub struct NotClosed {
     pub ticket: Ticket,
-    pub fault: cam::fault::Fault,
+    pub fault: Fault,
+}
+
+impl NotClosed {
+    // The refusal alone; only the bench itself may let the ticket go.
+    pub(crate) fn let_go(self) -> Fault
+        ensures refusal_alone { result ≡ self.fault }
+    {
+        let NotClosed { ticket, fault } = self;
+        ticket.let_go();
+        fault
+    }
 }

@@ -11,6 +11,7 @@ use crate::bench::Bench;
 use crate::books::Finding;
 use cam::array::CamArray;
 use cam::fault::{Fault, Reason};
+use cam::size::size_of;
 use chart::drawing::{draw, operation_count};
 
 impl<C: CamArray> Bench<C> {
@@ -24,15 +25,14 @@ impl<C: CamArray> Bench<C> {
         ensures operated_or_unchanged { MatchResult result (λ _. C.state self.new.array ≡ after_all (C.build self.old.array) (chart_operations (C.build self.old.array).words (C.build self.old.array).width) (C.state self.old.array)) (λ _. self.new ≡ self.old) }
         ensures build_stays { C.build self.new.array ≡ C.build self.old.array }
     {
-        if self.books.running {
+        if self.books.run.is_some() {
             return Err(Fault::of_call(Reason::RunInHand));
         }
-        let words = self.array.words();
-        let width = self.array.width();
-        if buffer.len() < words as usize * width as usize {
+        let size = size_of(&self.array);
+        if buffer.len() < size.cells() as usize {
             return Err(Fault::of_call(Reason::BufferTooShort));
         }
-        if !self.has_room(operation_count(words, width)) {
+        if !self.has_room(operation_count(size.words, size.width)) {
             return Err(Fault::of_call(Reason::LimitPassed));
         }
         let finding = Finding::Charted(draw(&mut self.array, buffer));

@@ -55,24 +55,19 @@ fn perform<C: CamArray>(bench: &mut Bench<C>, call: Call)
 {
     match call {
         Call::ByHand(operation) => perform_by_hand(bench, operation),
-        Call::Start => match bench.start() {
-            Ok(Ticket { number: _ }) => {}
-            Err(_) => {}
-        },
+        Call::Start => {
+            let _ = bench.start().map(Ticket::let_go);
+        }
         Call::Step { ticket, most } => {
             let ticket = Ticket { number: ticket };
             let _ = bench.step(&ticket, most);
-            let Ticket { number: _ } = ticket;
+            ticket.let_go();
         }
-        Call::Close { ticket } => match bench.close(Ticket { number: ticket }) {
-            Ok(_) => {}
-            Err(
-                NotClosed {
-                    ticket: Ticket { number: _ },
-                    fault: _,
-                },
-            ) => {}
-        },
+        Call::Close { ticket } => {
+            let _ = bench
+                .close(Ticket { number: ticket })
+                .map_err(NotClosed::let_go);
+        }
         Call::Quit { ticket } => {
             let _ = bench.quit(Ticket { number: ticket });
         }

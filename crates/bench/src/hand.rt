@@ -1,6 +1,7 @@
 // Operations by hand. Each asks whether no run is in hand (51), then, where it has one, for the word (52) and for the
 // pattern and the mask (53), and last whether the tally stays within the bench's limit (54).
 ghost use Rattle.std.specs.Prelude.{◌≡◌, ◌&&◌, MatchResult, nat_lt};
+ghost use Rattle.std.specs.Fn.{FnOnceReturnsAtMut};
 ghost use Rattle.cam.specs.Model.{written, erased, counted, read_word, hit};
 ghost use Rattle.cam.specs.Refusals.{Asks};
 ghost use Rattle.cam.specs.declared.operation.Operation.TheVariants.{Write, Read, Compare, Erase};
@@ -49,7 +50,7 @@ impl<C: CamArray> Bench<C> {
             Operation::Compare { pattern, mask } => (true, self.is_narrow(pattern, mask)),
             Operation::Erase { word } => (self.has_word(word), true),
         };
-        if self.books.running {
+        if self.books.run.is_some() {
             Err(Fault::of_call(Reason::RunInHand))
         } else if !word_there {
             Err(Fault::of_call(Reason::NoSuchWord))
@@ -62,11 +63,21 @@ impl<C: CamArray> Bench<C> {
         }
     }
 
-    fn count_hand(&mut self)
-        ensures one_more { self.new.books ≡ handled self.old.books }
-        ensures array_stays { self.new.array ≡ self.old.array }
+    // Asks the questions of an operation by hand, does it on the array, and counts it.
+    fn by_hand<R, F: FnOnce(&mut C) -> R>(
+        &mut self,
+        operation: Operation,
+        act: F,
+    ) -> Result<R, Fault>
+        requires { F.IsAlwaysCallable act }
+        ensures asks_in_order { Asks (hand_questions (C.build self.old.array) (C.state self.old.array) self.old.books operation) result }
+        ensures done_or_unchanged { MatchResult result (λ answer. FnOnceReturnsAtMut F.FnOnce act self.old.array answer self.new.array) (λ _. self.new ≡ self.old) }
+        ensures counted_or_unchanged { MatchResult result (λ _. self.new.books ≡ handled self.old.books) (λ _. self.new ≡ self.old) }
     {
+        self.may_operate(operation)?;
+        let answer = act(&mut self.array);
         self.books.hand = self.books.hand.saturating_add(1);
+        Ok(answer)
     }
 
     pub fn write(&mut self, word: WordIndex, pattern: u64, mask: u64) -> Result<(), Fault>
@@ -75,16 +86,12 @@ impl<C: CamArray> Bench<C> {
         ensures counted_or_unchanged { MatchResult result (λ _. self.new.books ≡ handled self.old.books) (λ _. self.new ≡ self.old) }
         ensures build_stays { C.build self.new.array ≡ C.build self.old.array }
     {
-        if let Err(fault) = self.may_operate(Operation::Write {
+        let operation = Operation::Write {
             word,
             pattern,
             mask,
-        }) {
-            return Err(fault);
-        }
-        self.array.write(word, pattern, mask);
-        self.count_hand();
-        Ok(())
+        };
+        self.by_hand(operation, |array| array.write(word, pattern, mask))
     }
 
     pub fn read(&mut self, word: WordIndex) -> Result<u64, Fault>
@@ -94,12 +101,7 @@ impl<C: CamArray> Bench<C> {
         ensures counted_or_unchanged { MatchResult result (λ _. self.new.books ≡ handled self.old.books) (λ _. self.new ≡ self.old) }
         ensures build_stays { C.build self.new.array ≡ C.build self.old.array }
     {
-        if let Err(fault) = self.may_operate(Operation::Read { word }) {
-            return Err(fault);
-        }
-        let bits = self.array.read(word);
-        self.count_hand();
-        Ok(bits)
+        self.by_hand(Operation::Read { word }, |array| array.read(word))
     }
 
     pub fn compare(&mut self, pattern: u64, mask: u64) -> Result<bool, Fault>
@@ -109,12 +111,9 @@ impl<C: CamArray> Bench<C> {
         ensures counted_or_unchanged { MatchResult result (λ _. self.new.books ≡ handled self.old.books) (λ _. self.new ≡ self.old) }
         ensures build_stays { C.build self.new.array ≡ C.build self.old.array }
     {
-        if let Err(fault) = self.may_operate(Operation::Compare { pattern, mask }) {
-            return Err(fault);
-        }
-        let yes = self.array.compare(pattern, mask);
-        self.count_hand();
-        Ok(yes)
+        self.by_hand(Operation::Compare { pattern, mask }, |array| {
+            array.compare(pattern, mask)
+        })
     }
 
     pub fn erase(&mut self, word: WordIndex) -> Result<(), Fault>
@@ -123,11 +122,6 @@ impl<C: CamArray> Bench<C> {
         ensures counted_or_unchanged { MatchResult result (λ _. self.new.books ≡ handled self.old.books) (λ _. self.new ≡ self.old) }
         ensures build_stays { C.build self.new.array ≡ C.build self.old.array }
     {
-        if let Err(fault) = self.may_operate(Operation::Erase { word }) {
-            return Err(fault);
-        }
-        self.array.erase(word);
-        self.count_hand();
-        Ok(())
+        self.by_hand(Operation::Erase { word }, |array| array.erase(word))
     }
 }

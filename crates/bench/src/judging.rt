@@ -2,21 +2,22 @@
 ghost use Rattle.std.specs.Prelude.{◌≡◌, length, MatchResult};
 ghost use Rattle.cam.specs.Refusals.{Asks, AsksIn};
 ghost use Rattle.chart.specs.Chart.{Charted as ChartIn};
+ghost use Rattle.bench.specs.Books.{new_books};
 ghost use Rattle.bench.specs.Judging.{judge_questions, judged_state, Judges};
 
 use crate::bench::{Bench, LIMIT};
 use crate::books::Finding;
 use cam::array::CamArray;
 use cam::fault::{Fault, Reason};
+use cam::size::{Size, size_of};
 use chart::drawing;
 use mlt1::table;
 
 // What a judging tells: the size, the operations of the run and what it found, the operations of the chart (`charting`)
 // and how many cells it shows as blemished.
-#[derive(Clone, Copy)]
+#[derive(Clone, Copy, PartialEq, Eq)]
 pub struct Judgement {
-    pub words: u16,
-    pub width: u8,
+    pub size: Size,
     pub operations: u32,
     pub finding: Finding,
     pub charting: u32,
@@ -36,21 +37,51 @@ pub struct NotJudged<C> {
     pub fault: Fault,
 }
 
+// For a caller that needs the refusal alone.
+impl<C: Drop> From<NotJudged<C>> for Fault {
+    ghost from_gives = { λ e f. f ≡ e.fault };
+
+    fn from(refused: NotJudged<C>) -> Fault {
+        refused.fault
+    }
+}
+
 // Asks for a byte for each cell (57), and for room in the tally for a run and a chart (54).
 fn may_judge<C: CamArray>(array: &C, bytes: usize) -> Result<(), Fault>
     ensures asks_in_order { Asks (judge_questions (C.build array.now) (C.state array.now) bytes) result }
 {
-    let words = array.words();
-    let width = array.width();
-    let operations = table::operation_count(words, width) as u64
-        + drawing::operation_count(words, width) as u64;
-    if bytes < words as usize * width as usize {
+    let size = size_of(array);
+    let operations = table::operation_count(size.words, size.width) as u64
+        + drawing::operation_count(size.words, size.width) as u64;
+    if bytes < size.cells() as usize {
         Err(Fault::of_call(Reason::BufferTooShort))
     } else if array.tally() + operations > LIMIT {
         Err(Fault::of_call(Reason::LimitPassed))
     } else {
         Ok(())
     }
+}
+
+// Judges the array of a new bench.
+fn judge_on<C: CamArray>(bench: &mut Bench<C>, buffer: &mut [u8]) -> Result<Judgement, Fault>
+    requires new_bench { bench.old.books ≡ new_books }
+    ensures asks_in_order { Asks (judge_questions (C.build bench.old.array) (C.state bench.old.array) (length buffer.old)) result }
+    ensures judgement_is_right { MatchResult result (λ j. Judges (C.build bench.old.array) (C.state bench.old.array) j) (λ _. bench.new ≡ bench.old) }
+    ensures every_byte { MatchResult result (λ _. ChartIn (C.build bench.old.array) buffer.old buffer.new) (λ _. buffer.new ≡ buffer.old) }
+    ensures only_these_operations { MatchResult result (λ _. C.state bench.new.array ≡ judged_state (C.build bench.old.array) (C.state bench.old.array)) (λ _. bench.new ≡ bench.old) }
+    ensures build_stays { C.build bench.new.array ≡ C.build bench.old.array }
+{
+    may_judge(&bench.array, buffer.len())?;
+    let size = size_of(&bench.array);
+    let finding = bench.run_whole()?;
+    let charted = bench.chart(buffer)?;
+    Ok(Judgement {
+        size,
+        operations: table::operation_count(size.words, size.width),
+        finding,
+        charting: drawing::operation_count(size.words, size.width),
+        blemished: charted.count(),
+    })
 }
 
 // Makes a bench over an array, runs MLT-1 on it and closes the run, and draws the chart at the front of a buffer. It
@@ -62,37 +93,11 @@ pub fn judge_array<C: CamArray>(array: C, buffer: &mut [u8]) -> Result<Judged<C>
     ensures only_these_operations { MatchResult result (λ j. C.state j.array ≡ judged_state (C.build array) (C.state array)) (λ e. e.array ≡ array) }
     ensures build_stays { MatchResult result (λ j. C.build j.array ≡ C.build array) (λ e. e.array ≡ array) }
 {
-    match may_judge(&array, buffer.len()) {
-        Ok(()) => {}
-        Err(fault) => return Err(NotJudged { array, fault }),
-    }
-    let words = array.words();
-    let width = array.width();
     let mut bench = Bench::new(array);
-    let finding = match bench.run_whole() {
-        Ok(finding) => finding,
-        Err(fault) => return Err(NotJudged {
-            array: bench.into_array(),
-            fault,
-        }),
-    };
-    let charted = match bench.chart(buffer) {
-        Ok(charted) => charted,
-        Err(fault) => return Err(NotJudged {
-            array: bench.into_array(),
-            fault,
-        }),
-    };
-    let judgement = Judgement {
-        words,
-        width,
-        operations: table::operation_count(words, width),
-        finding,
-        charting: drawing::operation_count(words, width),
-        blemished: charted.count(),
-    };
-    Ok(Judged {
-        array: bench.into_array(),
-        judgement,
-    })
+    let judged = judge_on(&mut bench, buffer);
+    let array = bench.into_array();
+    match judged {
+        Ok(judgement) => Ok(Judged { array, judgement }),
+        Err(fault) => Err(NotJudged { array, fault }),
+    }
 }

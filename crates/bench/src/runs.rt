@@ -1,9 +1,9 @@
 // Runs of MLT-1 and their tickets.
-ghost use Rattle.std.specs.Prelude.{◌≡◌, ◌-◌, min, length, MatchResult};
+ghost use Rattle.std.specs.Prelude.{◌≡◌, ◌-◌, min, length, Some, IfOk, MatchResult};
 ghost use Rattle.cam.specs.Refusals.{Asks, AsksIn};
 ghost use Rattle.mlt1.specs.Left.{left, Went};
-ghost use Rattle.bench.specs.Books.{started, with_run, found, closed, stopped};
-ghost use Rattle.bench.specs.Questions.{start_questions, step_questions, close_questions, quit_questions, run_length, fits};
+ghost use Rattle.bench.specs.Books.{run_in_hand, started, with_run, found, closed, stopped};
+ghost use Rattle.bench.specs.Questions.{start_questions, step_questions, close_questions, quit_questions};
 
 use crate::bench::{Bench, LIMIT};
 use crate::books::{Finding, NotClosed, Ticket};
@@ -20,7 +20,7 @@ impl<C: CamArray> Bench<C> {
         ensures started_or_unchanged { MatchResult result (λ _. self.new.books ≡ started self.old.books) (λ _. self.new ≡ self.old) }
         ensures array_stays { self.new.array ≡ self.old.array }
     {
-        if self.books.running {
+        if self.books.run.is_some() {
             return Err(Fault::of_call(Reason::RunInHand));
         }
         let operations = operation_count(self.array.words(), self.array.width());
@@ -28,68 +28,70 @@ impl<C: CamArray> Bench<C> {
             return Err(Fault::of_call(Reason::LimitPassed));
         }
         self.books.starts = self.books.starts.saturating_add(1);
-        self.books.running = true;
-        self.books.run = RunState::start();
+        self.books.run = Some(RunState::start());
         Ok(Ticket {
             number: self.books.starts,
         })
     }
 
-    // Whether a run is in hand and the ticket is its own.
-    fn fits(&self, number: u64) -> bool
-        ensures run_of_the_ticket { result ≡ fits self.now.books number }
+    // The run of a ticket (55).
+    fn run_of(&self, number: u64) -> Result<RunState, Fault>
+        ensures asks_in_order { Asks (step_questions self.now.books number) result }
+        ensures that_in_hand { IfOk result (λ run. self.now.books.run ≡ Some run) }
     {
-        self.books.running && number == self.books.starts
+        self.books
+            .run
+            .filter(|_| number == self.books.starts)
+            .ok_or(Fault::of_call(Reason::TicketDoesNotFit))
+    }
+
+    // The run of a ticket (55), if it is at its end (56).
+    fn ended_run(&self, number: u64) -> Result<RunState, Fault>
+        ensures asks_in_order { Asks (close_questions (C.build self.now.array) self.now.books number) result }
+        ensures that_in_hand { IfOk result (λ run. self.now.books.run ≡ Some run) }
+    {
+        let run = self.run_of(number)?;
+        if run.place() != operation_count(self.array.words(), self.array.width()) {
+            return Err(Fault::of_call(Reason::RunNotAtEnd));
+        }
+        Ok(run)
     }
 
     // Does the next operations of the run, at most `most`, if the ticket fits (55), and says how many.
     pub fn step(&mut self, ticket: &Ticket, most: u32) -> Result<u32, Fault>
         ensures asks_in_order { Asks (step_questions self.old.books ticket.now.number) result }
-        ensures most_or_all_left { MatchResult result (λ n. n ≡ min most (length (left (C.build self.old.array).words (C.build self.old.array).width self.old.books.run))) (λ _. self.new ≡ self.old) }
-        ensures next_steps_done { MatchResult result (λ n. Went (C.build self.old.array) n self.old.books.run self.new.books.run (C.state self.old.array) (C.state self.new.array)) (λ _. self.new ≡ self.old) }
-        ensures other_books_stay { self.new.books ≡ with_run self.new.books.run self.old.books }
+        ensures most_or_all_left { MatchResult result (λ n. n ≡ min most (length (left (C.build self.old.array).words (C.build self.old.array).width (run_in_hand self.old.books)))) (λ _. self.new ≡ self.old) }
+        ensures next_steps_done { MatchResult result (λ n. Went (C.build self.old.array) n (run_in_hand self.old.books) (run_in_hand self.new.books) (C.state self.old.array) (C.state self.new.array)) (λ _. self.new ≡ self.old) }
+        ensures other_books_stay { MatchResult result (λ _. self.new.books ≡ with_run (run_in_hand self.new.books) self.old.books) (λ _. self.new ≡ self.old) }
         ensures build_stays { C.build self.new.array ≡ C.build self.old.array }
     {
-        if !self.fits(ticket.number) {
-            return Err(Fault::of_call(Reason::TicketDoesNotFit));
-        }
-        let mut run = self.books.run;
+        let mut run = self.run_of(ticket.number)?;
         let done = run.advance_by(&mut self.array, most);
-        self.books.run = run;
+        self.books.run = Some(run);
         Ok(done)
     }
 
     // Closes the run of the ticket (55) at its end (56): the finding is sound where no answer missed, else faulty.
     pub fn close(&mut self, ticket: Ticket) -> Result<Finding, NotClosed>
         ensures asks_in_order { AsksIn (λ e. e.fault) (close_questions (C.build self.old.array) self.old.books ticket.number) result }
-        ensures finding_of_the_misses { MatchResult result (λ f. f ≡ found self.old.books.run.misses) (λ e. e.ticket ≡ ticket) }
+        ensures finding_of_the_misses { MatchResult result (λ f. f ≡ found (run_in_hand self.old.books).misses) (λ e. e.ticket ≡ ticket) }
         ensures closed_or_unchanged { MatchResult result (λ _. self.new.books ≡ closed self.old.books) (λ _. self.new ≡ self.old) }
         ensures array_stays { self.new.array ≡ self.old.array }
     {
-        if !self.fits(ticket.number) {
-            return Err(NotClosed {
-                ticket,
-                fault: Fault::of_call(Reason::TicketDoesNotFit),
-            });
+        match self.ended_run(ticket.number) {
+            Ok(run) => {
+                let Ticket { number: _ } = ticket;
+                let finding = match run.misses() {
+                    0 => Finding::Sound,
+                    misses => Finding::Faulty(misses),
+                };
+                self.books.closes = self.books.closes.saturating_add(1);
+                self.books.run = None;
+                self.books.finding = finding;
+                Ok(finding)
+            }
+            Err(fault) => Err(NotClosed { ticket, fault }),
         }
-        if self.books.run.place() != operation_count(self.array.words(), self.array.width()) {
-            return Err(NotClosed {
-                ticket,
-                fault: Fault::of_call(Reason::RunNotAtEnd),
-            });
-        }
-        let Ticket { number: _ } = ticket;
-        let misses = self.books.run.misses();
-        let finding = if misses == 0 {
-            Finding::Sound
-        } else {
-            Finding::Faulty(misses)
-        };
-        self.books.closes = self.books.closes.saturating_add(1);
-        self.books.running = false;
-        self.books.run = RunState::start();
-        self.books.finding = finding;
-        Ok(finding)
     }
 
     // Takes the ticket and ends its run (55), whose operations are counted as those of a run that was quit. The finding
@@ -100,15 +102,9 @@ impl<C: CamArray> Bench<C> {
         ensures array_stays { self.new.array ≡ self.old.array }
     {
         let Ticket { number } = ticket;
-        if !self.fits(number) {
-            return Err(Fault::of_call(Reason::TicketDoesNotFit));
-        }
-        self.books.quits = self
-            .books
-            .quits
-            .saturating_add(self.books.run.place() as u64);
-        self.books.running = false;
-        self.books.run = RunState::start();
+        let run = self.run_of(number)?;
+        self.books.quits = self.books.quits.saturating_add(run.place() as u64);
+        self.books.run = None;
         Ok(())
     }
 }

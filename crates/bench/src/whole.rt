@@ -25,17 +25,8 @@ impl<C: CamArray> Bench<C> {
         ensures build_stays { C.build self.new.array ≡ C.build self.old.array }
     {
         let operations = operation_count(self.array.words(), self.array.width());
-        let ticket = match self.start() {
-            Ok(ticket) => ticket,
-            Err(fault) => return Err(fault),
-        };
+        let ticket = self.start()?;
         let _ = self.step(&ticket, operations);
-        match self.close(ticket) {
-            Ok(finding) => Ok(finding),
-            Err(NotClosed { ticket, fault }) => {
-                let _ = self.quit(ticket);
-                Err(fault)
-            }
-        }
+        self.close(ticket).map_err(NotClosed::let_go)
     }
 }
