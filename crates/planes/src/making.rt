@@ -21,13 +21,13 @@ impl PlaneArray {
     // Makes an array of this size without defects, bits 0 and marks clear. It asks for 1 to 256 words of 1 to 64 bits
     // (41), then for a record for each word (57). What the records hold does not matter; those past the last word are
     // left as they are.
-    pub fn new(records: Vec<WordRecord>, size: Size) -> Result<PlaneArray, NotMade>
+    pub fn new(mut records: Vec<WordRecord>, size: Size) -> Result<PlaneArray, NotMade>
         ensures asks_size_then_records { AsksIn (λ e. e.fault) (ask (within_limits size.words size.width) 41 ∷ ask (nat_le size.words (vec_len records)) 57 ∷ []) result }
         ensures made_flawless { MatchResult result (λ p. build_of p ≡ flawless size.words size.width) (λ e. e.records ≡ records) }
         ensures made_cleared { MatchResult result (λ p. state_of p ≡ cleared) (λ e. e.records ≡ records) }
         ensures later_records_stay { MatchResult result (λ p. p.records.items ≡ blanked size.words records.items) (λ e. e.records ≡ records) }
     {
-        if size.words < 1 || size.words > 256 || size.width < 1 || size.width > 64 {
+        if !(1..=256).contains(&size.words) || !(1..=64).contains(&size.width) {
             return Err(NotMade {
                 records,
                 fault: Fault::of_call(Reason::SizeOutsideLimits),
@@ -40,7 +40,6 @@ impl PlaneArray {
                 fault: Fault::of_call(Reason::BufferTooShort),
             });
         }
-        let mut records = records;
         blank_first(records.as_mut_slice(), words);
         Ok(PlaneArray {
             records,
