@@ -1,11 +1,13 @@
 -- What is left of a list of elements, as a run moves through it.
-use Rattle.std.proofs.Common.{◌≡◌, ℕ, zero, suc, ◌+◌, ◌-◌, ◌<◌, ◌≤◌, true, ltb, List, [], ◌∷◌, ◌++◌, length, drop, is_some, Some, None, sym, refl, ap, ◌∙◌, append_assoc, append-nil, add-one, arith}
+use Rattle.std.proofs.Common.{◌≡◌, ℕ, zero, suc, ◌+◌, ◌-◌, ◌<◌, ◌≤◌, true, ltb, List, [], ◌∷◌, ◌++◌, drop, is_some, Some, None, sym, refl, ap, ◌∙◌, append_assoc, append-nil, add-one, arith}
 use Rattle.std.specs.List.{slice_get}
+use Rattle.std.proofs.lemmas.Option.{slice_get_within}
 use Rattle.std.proofs.lemmas.Bool.{true≢false, lt-ltb, le-ltb, ltb-true, ltb-false, cond-true, cond-false}
 use Rattle.cam.proofs.Below.{split}
 use Rattle.march.specs.declared.step.Step.{Step}
 use Rattle.cam.specs.Machine.{upward}
-use Rattle.march.specs.Tests.{Element, visits, visit, step_at, schedule}
+use Rattle.march.specs.Tests.{Element, visits, visit, steps_in_visit, step_at, schedule}
+use Rattle.march.proofs.Going.{none_left, one_left}
 use Rattle.march.proofs.Lengths.{per_visit, visit_length}
 use Rattle.mlt1.specs.Left.{from_on, rest_of, left_in}
 
@@ -39,22 +41,6 @@ left_start N W (e ∷ es) =
     (rest_from N W e 0 ∙ ap (λ (n : ℕ). from_on n 0 (visit N W e)) (let z : visits N W e - 0 ≡ visits N W e = omega arith in z)
     ∙ from_start (visits N W e) (visit N W e))
 
-drop_nth : {X : Type 0} (xs : List X) (o : ℕ) (x : X) → Some x ≡ slice_get xs o → drop o xs ≡ x ∷ drop (suc o) xs
-drop_nth [] o x e = absurd (true≢false (ap is_some e))
-drop_nth (y ∷ ys) zero x e = let s : y ≡ x = cc in ap (λ z. z ∷ ys) s
-drop_nth (y ∷ ys) (suc o) x e = drop_nth ys o x e
-
-nth_inside : {X : Type 0} (xs : List X) (o : ℕ) (x : X) → Some x ≡ slice_get xs o → o < length xs
-nth_inside [] o x e = absurd (true≢false (ap is_some e))
-nth_inside (y ∷ ys) zero x e = omega arith
-nth_inside (y ∷ ys) (suc o) x e = omega (arith, nth_inside ys o x e)
-
-drop_none : {X : Type 0} (xs : List X) (o : ℕ) → None ≡ slice_get xs o → drop o xs ≡ []
-drop_none [] zero e = refl
-drop_none [] (suc o) e = refl
-drop_none (y ∷ ys) zero e = absurd (true≢false (sym (ap is_some e)))
-drop_none (y ∷ ys) (suc o) e = drop_none ys o e
-
 module _ (N W : ℕ) (e : Element) (v o : ℕ) where
   inside : (s : Step) → Some s ≡ step_at N W e v o → v < visits N W e
   inside s q =
@@ -68,7 +54,7 @@ module _ (N W : ℕ) (e : Element) (v o : ℕ) where
       let at : Some s ≡ slice_get (visit N W e v) o = q ∙ cond-true (ltb v (visits N W e)) _ _ t in
       let later : List Step = from_on (visits N W e - suc v) (suc v) (visit N W e) in
       cond-true (ltb v (visits N W e)) _ _ t
-      ∙ ap (λ xs. xs ++ later) (drop_nth (visit N W e v) o s at ∙ ap (λ (n : ℕ). s ∷ drop n (visit N W e v)) (sym (add-one o)))
+      ∙ ap (λ xs. xs ++ later) (one_left (visit N W e v) o s (sym at))
       ∙ ap (λ xs. s ∷ xs) (sym (cond-true (ltb v (visits N W e)) _ _ t))
 
   -- none is there, but the visit is one of the element's: the next visit begins
@@ -77,7 +63,7 @@ module _ (N W : ℕ) (e : Element) (v o : ℕ) where
       let t : ltb v (visits N W e) ≡ true = lt-ltb v (visits N W e) l in
       let later : List Step = from_on (visits N W e - suc v) (suc v) (visit N W e) in
       cond-true (ltb v (visits N W e)) _ _ t
-      ∙ ap (λ xs. xs ++ later) (drop_none (visit N W e v) o (q ∙ cond-true (ltb v (visits N W e)) _ _ t))
+      ∙ ap (λ xs. xs ++ later) (none_left (visit N W e v) o (sym (q ∙ cond-true (ltb v (visits N W e)) _ _ t)))
       ∙ sym (rest_from N W e (suc v)) ∙ ap (λ (n : ℕ). rest_of N W e n 0) (sym (add-one v))
 
   -- the element has no such visit
@@ -87,25 +73,38 @@ module _ (N W : ℕ) (e : Element) (v o : ℕ) where
   pub operation_few : (s : Step) → Some s ≡ step_at N W e v o → o < per_visit e
   operation_few s q =
       let t : ltb v (visits N W e) ≡ true = lt-ltb v (visits N W e) (inside s q) in
-      omega (arith, nth_inside (visit N W e v) o s (q ∙ cond-true (ltb v (visits N W e)) _ _ t), visit_length e N W v)
+      omega (arith, slice_get_within (visit N W e v) o s (sym (q ∙ cond-true (ltb v (visits N W e)) _ _ t)), visit_length e N W v)
 
 -- Element i of a list is e. Where a run that has come to operation o of visit v stands:
 module _ (N W : ℕ) (es : List Element) (i : ℕ) (e : Element) (v o : ℕ) (at : Some e ≡ slice_get es i) where
-  here : (v o : ℕ) → left_in N W (drop i es) v o ≡ rest_of N W e v o ++ schedule N W (drop (suc i) es)
-  here v o = ap (λ xs. left_in N W xs v o) (drop_nth es i e at)
+  here : (v o : ℕ) → left_in N W (drop i es) v o ≡ rest_of N W e v o ++ schedule N W (drop (i + 1) es)
+  here v o = ap (λ xs. left_in N W xs v o) (one_left es i e (sym at))
 
   pub left_step : (s : Step) → Some s ≡ step_at N W e v o → left_in N W (drop i es) v o ≡ s ∷ left_in N W (drop i es) v (o + 1)
   left_step s q =
-      here v o ∙ ap (λ xs. xs ++ schedule N W (drop (suc i) es)) (rest_step N W e v o s q) ∙ ap (λ xs. s ∷ xs) (sym (here v (o + 1)))
+      here v o ∙ ap (λ xs. xs ++ schedule N W (drop (i + 1) es)) (rest_step N W e v o s q) ∙ ap (λ xs. s ∷ xs) (sym (here v (o + 1)))
 
   pub left_visit : None ≡ step_at N W e v o → v < visits N W e → left_in N W (drop i es) v o ≡ left_in N W (drop i es) (v + 1) 0
   left_visit q l =
-      here v o ∙ ap (λ xs. xs ++ schedule N W (drop (suc i) es)) (rest_visit N W e v o q l) ∙ sym (here (v + 1) 0)
+      here v o ∙ ap (λ xs. xs ++ schedule N W (drop (i + 1) es)) (rest_visit N W e v o q l) ∙ sym (here (v + 1) 0)
 
   pub left_element : visits N W e ≤ v → left_in N W (drop i es) v o ≡ left_in N W (drop (i + 1) es) 0 0
   left_element l =
-      here v o ∙ ap (λ xs. xs ++ schedule N W (drop (suc i) es)) (rest_none N W e v o l)
-      ∙ sym (left_start N W (drop (suc i) es)) ∙ ap (λ (n : ℕ). left_in N W (drop n es) 0 0) (sym (add-one i))
+      here v o ∙ ap (λ xs. xs ++ schedule N W (drop (i + 1) es)) (rest_none N W e v o l)
+      ∙ sym (left_start N W (drop (i + 1) es))
+
+  -- a visit of the element begins: its steps are left, and then the visits after it
+  pub left_steps : v < visits N W e → left_in N W (drop i es) v 0 ≡ steps_in_visit N W e v ++ left_in N W (drop i es) (v + 1) 0
+  left_steps l =
+      let t : ltb v (visits N W e) ≡ true = lt-ltb v (visits N W e) l in
+      let steps : List Step = visit N W e v in
+      let later : List Step = from_on (visits N W e - suc v) (suc v) (visit N W e) in
+      let rest : List Step = schedule N W (drop (i + 1) es) in
+      let next : left_in N W (drop i es) (v + 1) 0 ≡ later ++ rest =
+      here (v + 1) 0 ∙ ap (λ xs. xs ++ rest) (ap (λ (n : ℕ). rest_of N W e n 0) (add-one v) ∙ rest_from N W e (suc v)) in
+      here v 0 ∙ ap (λ xs. xs ++ rest) (cond-true (ltb v (visits N W e)) _ _ t) ∙ append_assoc steps later rest
+      ∙ ap (λ xs. steps ++ xs) (sym next)
+      ∙ ap (λ xs. xs ++ left_in N W (drop i es) (v + 1) 0) (sym (cond-true (ltb v (visits N W e)) steps [] t))
 
 pub left_end : (N W : ℕ) (es : List Element) (i v o : ℕ) → None ≡ slice_get es i → left_in N W (drop i es) v o ≡ []
-left_end N W es i v o q = ap (λ xs. left_in N W xs v o) (drop_none es i q)
+left_end N W es i v o q = ap (λ xs. left_in N W xs v o) (none_left es i (sym q))

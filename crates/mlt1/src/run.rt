@@ -7,6 +7,7 @@ ghost use Rattle.mlt1.specs.Left.{left, at_start, Went};
 
 use crate::state::RunState;
 use cam::array::CamArray;
+use cam::size::size_of;
 use march::step::perform;
 
 impl RunState {
@@ -47,14 +48,12 @@ impl RunState {
         ensures next_step_done { Went (C.build array.old) (if result then 1 else 0) self.old self.new (C.state array.old) (C.state array.new) }
         ensures build_stays { C.build array.new ≡ C.build array.old }
     {
-        match self.next_step(array.words(), array.width()) {
-            None => false,
-            Some(step) => {
-                let missed = perform(array, step);
-                self.pass(missed);
-                true
-            }
-        }
+        let Some(step) = self.next_step(size_of(array)) else {
+            return false;
+        };
+        let missed = perform(array, step);
+        self.pass(missed);
+        true
     }
 
     // Does the next operations, at most `most` of them, and says how many: fewer only where fewer are left.

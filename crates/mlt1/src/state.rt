@@ -3,10 +3,12 @@ ghost use Rattle.std.specs.Prelude.{◌≡◌, ℕ, ◌+◌, ◌<◌, min, ◌�
 ghost use Rattle.mlt1.specs.Left.{left, Next, passed};
 
 use crate::table::element;
+use cam::size::Size;
 use march::step::Step;
 
 // The element, the visit in it and the operation in the visit, each counted from 0, that come next; how many
-// operations are done (the run's place), and how many of them missed.
+// operations are done (the run's place), and how many of them missed. The three places are kept in the place of an
+// iterator, since a run stops between any two operations and is a plain copy apart from its array.
 #[derive(Clone, Copy)]
 pub struct RunState {
     pub(crate) element: u8,
@@ -19,17 +21,17 @@ pub struct RunState {
 impl RunState {
     // The step that comes next, if any is left. The state moves on past visits whose operations are done and elements
     // whose visits are done; what is left stays the same.
-    pub(crate) fn next_step(&mut self, words: u16, width: u8) -> Option<Step>
-        ensures what_is_left_stays { left words (min width 64) self.new ≡ left words (min width 64) self.old }
-        ensures first_that_is_left { Next words (min width 64) self.new result }
+    pub(crate) fn next_step(&mut self, size: Size) -> Option<Step>
+        ensures what_is_left_stays { left size.words (min size.width 64) self.new ≡ left size.words (min size.width 64) self.old }
+        ensures first_that_is_left { Next size.words (min size.width 64) self.new result }
         ensures place_stays { self.new.place ≡ self.old.place }
         ensures misses_stay { self.new.misses ≡ self.old.misses }
     {
         while let Some(element) = element(self.element) {
-            if let Some(step) = element.step(words, width, self.visit, self.operation) {
+            if let Some(step) = element.step(size, self.visit, self.operation) {
                 return Some(step);
             }
-            if self.visit < element.visits(words, width) {
+            if self.visit < element.visits(size) {
                 self.visit += 1;
             } else {
                 self.element += 1;
@@ -47,8 +49,6 @@ impl RunState {
     {
         self.operation += 1;
         self.place = self.place.saturating_add(1);
-        if missed {
-            self.misses = self.misses.saturating_add(1);
-        }
+        self.misses = self.misses.saturating_add(missed as u32);
     }
 }

@@ -6,6 +6,7 @@ ghost use Rattle.march.specs.Table.{elements_of, name_of};
 ghost use Rattle.march.specs.Tests.{meant, schedule};
 ghost use Rattle.mlt1.specs.Mlt1.{mlt1, LengthIs};
 
+use cam::size::Size;
 use march::element::{Comparison, Element, TestOperation};
 use march::few::Few;
 use march::name::Name;
@@ -38,42 +39,19 @@ const C1_NONE: Comparison = Comparison {
     bit: true,
     hit: false,
 };
-// fills the places of a list past its count
-const E: TestOperation = TestOperation::Erase;
 
 // The elements of MLT-1 in their order.
 pub fn elements() -> [Element; 7]
     ensures test_mlt1 { map meant result ≡ mlt1 }
 {
     [
-        Element::Up(Few {
-            items: [W1, E, E, E, E, E, E, E],
-            count: 1,
-        }),
-        Element::Up(Few {
-            items: [W0, C0_HIT, W1, E, E, E, E, E],
-            count: 3,
-        }),
-        Element::Up(Few {
-            items: [R1, W0, E, E, E, E, E, E],
-            count: 2,
-        }),
-        Element::Columns(Few {
-            items: [C1_NONE; 8],
-            count: 1,
-        }),
-        Element::Down(Few {
-            items: [W1, C1_HIT, W0, E, E, E, E, E],
-            count: 3,
-        }),
-        Element::Down(Few {
-            items: [R0, W1, E, E, E, E, E, E],
-            count: 2,
-        }),
-        Element::Columns(Few {
-            items: [C0_NONE; 8],
-            count: 1,
-        }),
+        Element::Up(Few::of(&[W1])),
+        Element::Up(Few::of(&[W0, C0_HIT, W1])),
+        Element::Up(Few::of(&[R1, W0])),
+        Element::Columns(Few::of(&[C1_NONE])),
+        Element::Down(Few::of(&[W1, C1_HIT, W0])),
+        Element::Down(Few::of(&[R0, W1])),
+        Element::Columns(Few::of(&[C0_NONE])),
     ]
 }
 
@@ -81,12 +59,7 @@ pub fn elements() -> [Element; 7]
 pub fn element(at: u8) -> Option<Element>
     ensures element_at_place { option_map meant result ≡ slice_get mlt1 at }
 {
-    let test = elements();
-    if at < 7 {
-        Some(test[at as usize])
-    } else {
-        None
-    }
+    elements().get(at as usize).copied()
 }
 
 // MLT-1 as a test, which has the name `mlt1`.
@@ -94,20 +67,15 @@ pub fn mlt1_test() -> Test
     ensures elements_of_mlt1 { elements_of result ≡ mlt1 }
     ensures named_mlt1 { name_of result ≡ codes "mlt1" }
 {
-    let Ok(name) = Name::new(b"mlt1") else {
-        unreachable()
-    };
-    let Ok(test) = Test::with_elements(name, &elements()) else {
-        unreachable()
-    };
-    test
+    let name = Name::new(b"mlt1").unwrap();
+    Test::with_elements(name, &elements()).unwrap()
 }
 
 // How many operations a whole run does on an array of this size.
-pub fn operation_count(words: u16, width: u8) -> u32
-    ensures eleven_a_word_two_a_column { result ≡ 11 * words + 2 * width }
-    ensures steps_of_schedule { result ≡ length (schedule words width mlt1) }
+pub fn operation_count(size: Size) -> u32
+    ensures eleven_a_word_two_a_column { result ≡ 11 * size.words + 2 * size.width }
+    ensures steps_of_schedule { result ≡ length (schedule size.words size.width mlt1) }
     ensures length_at_every_size { LengthIs }
 {
-    11 * words as u32 + 2 * width as u32
+    11 * size.words as u32 + 2 * size.width as u32
 }

@@ -10,6 +10,7 @@ ghost use Rattle.mlt1.specs.Separation.{Separates};
 use crate::state::RunState;
 use crate::table::operation_count;
 use cam::array::CamArray;
+use cam::size::size_of;
 
 // Runs MLT-1 from its start to its end, and says how many of its answers were not the expected ones. From whatever the
 // array holds, and with any listed defects together, there is none exactly when the array has no listed defect.
@@ -23,7 +24,7 @@ pub fn run_mlt1<C: CamArray>(array: &mut C) -> u32
     ensures no_word_stands_in { NoStandIn Bool }
 {
     let mut run = RunState::start();
-    let operations = operation_count(array.words(), array.width());
+    let operations = operation_count(size_of(array));
     run.advance_by(array, operations);
     run.misses()
 }

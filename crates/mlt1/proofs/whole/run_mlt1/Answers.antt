@@ -16,7 +16,7 @@ returns g c =
     let k = c.operation_count-operations.result in
     let count : k ≡ 11 * B.words + 2 * B.width =
     c.operation_count-operations.ensures.eleven_a_word_two_a_column
-    ∙ ap₂ (λ (n w : ℕ). 11 * n + 2 * w) c.words.ensures.word_count c.width.ensures.bits_of_word in
+    ∙ ap₂ (λ (n w : ℕ). 11 * n + 2 * w) c.size_of.ensures.words_of_the_array c.size_of.ensures.bits_of_the_array in
     let steps = length_is B.words B.width in
     let run = went_whole B _ k _ _ _ _ c.advance_by.ensures.next_steps_done (c.start-run.ensures.whole_schedule_left B.words B.width)
     c.start-run.ensures.no_miss_yet c.advance_by.ensures.most_or_all_left (omega (arith, count, steps)) (omega (arith, count, formed.few_words, formed.few_bits)) in

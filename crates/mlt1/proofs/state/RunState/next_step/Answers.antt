@@ -9,8 +9,8 @@ use Rattle.mlt1.proofs.state.RunState.next_step.Goals.{then-self-visits, else-se
 
 pub returns-in-Some-step : goal.returns-in-Some-step
 returns-in-Some-step c =
-    let n = c.args.words in
-    let w = min c.args.width 64 in
+    let n = c.args.size.words in
+    let w = min c.args.size.width 64 in
     let s = c.loop-element.self in
     let r = c.in-Some.element in
     let at = c.in-Some.ensures.element_at_place in
@@ -27,8 +27,8 @@ returns-in-Some-step c =
 
 pub loop-element-preserved : goal.loop-element-preserved
 loop-element-preserved c =
-    let n = c.args.words in
-    let w = min c.args.width 64 in
+    let n = c.args.size.words in
+    let w = min c.args.size.width 64 in
     let s = c.loop-element.self in
     let r = c.in-Some.element in
     let at = c.in-Some.ensures.element_at_place in
@@ -55,7 +55,7 @@ returns c =
     let s = c.loop-element.self in
     record {
       what_is_left_stays = c.loop-element.invariant.0;
-      first_that_is_left = left_end c.args.words (min c.args.width 64) mlt1 s.element s.visit s.operation c.in_default.ensures.element_at_place;
+      first_that_is_left = left_end c.args.size.words (min c.args.size.width 64) mlt1 s.element s.visit s.operation c.in_default.ensures.element_at_place;
       place_stays = c.loop-element.invariant.1;
       misses_stay = c.loop-element.invariant.2;
     }

@@ -4,7 +4,7 @@ use Rattle.mlt1.proofs.state.RunState.next_step.Given as goal
 
 abbrev pub invariant-loop-element : goal.invariant-loop-element
 invariant-loop-element l =
-    (left l.words (min l.width 64) l.self ≡ left l.words (min l.width 64) l.initial.self)
+    (left l.size.words (min l.size.width 64) l.self ≡ left l.size.words (min l.size.width 64) l.initial.self)
     × (l.self.place ≡ l.initial.self.place) × (l.self.misses ≡ l.initial.self.misses)
 
 -- a visit more, or an element more
