@@ -14,14 +14,15 @@ use crate::answers::Answers;
 use cam::array::CamArray;
 use cam::bits::{all_but_column, equal_bits};
 use cam::index::{ColumnIndex, WordIndex};
+use cam::size::Size;
 
 // How many operations a chart takes on an array of this size.
-pub fn operation_count(words: u16, width: u8) -> u32
-    ensures eight_and_four_a_column_for_each_word { result ≡ words * (8 + 4 * width) }
-    ensures operations_of_a_chart { result ≡ length (chart_operations words width) }
+pub fn operation_count(size: Size) -> u32
+    ensures eight_and_four_a_column_for_each_word { result ≡ size.words * (8 + 4 * size.width) }
+    ensures operations_of_a_chart { result ≡ length (chart_operations size.words size.width) }
     ensures length_at_every_size { ChartLength }
 {
-    words as u32 * (8 + 4 * width as u32)
+    size.words as u32 * (8 + 4 * size.width as u32)
 }
 
 // The columns on which a compare of equal bits hits, every other column blocked.
