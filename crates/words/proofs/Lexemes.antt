@@ -7,7 +7,7 @@ use Rattle.cam.specs.declared.fault.Fault.{Fault}
 use Rattle.march.specs.Every.{every}
 use Rattle.march.specs.Letters.{is_letter_or_digit, is_name}
 use Rattle.words.specs.declared.token.Kind.TheVariants.{Open, Close, LineFeed, Word, End}
-use Rattle.words.specs.declared.token.Token.{Token}
+use Rattle.words.specs.Lexing.{Token}
 use Rattle.words.specs.Lexing.{Skips, Runs, WordAt, word, too_long, stray, TokenAt, ends, opens, closes, feeds, others, Lexed, Lies, token, bytes_of, Measured, short, long}
 use Rattle.words.proofs.Rules.{One}
 
@@ -92,7 +92,7 @@ word_lies text p _ (word e l r n) = record { after = omega arith; order = omega 
 word_lies text p _ (too_long e r n) = tt
 word_lies text p _ (stray off) = tt
 
-token_lies : (text : List ℕ) (p : ℕ) (r : Result Token Fault) → TokenAt text p r → IfOk r (Lies text p)
+pub token_lies : (text : List ℕ) (p : ℕ) (r : Result Token Fault) → TokenAt text p r → IfOk r (Lies text p)
 token_lies text p _ (ends e) = record { after = omega arith; order = omega arith; inside = omega arith; some = λ n. absurd (n refl) }
 token_lies text p _ (opens h b) = record { after = omega arith; order = omega arith; inside = omega arith; some = λ n. omega arith }
 token_lies text p _ (closes h b) = record { after = omega arith; order = omega arith; inside = omega arith; some = λ n. omega arith }

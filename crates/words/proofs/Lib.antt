@@ -1,4 +1,5 @@
 pub mod Lexemes
+pub mod Runs
 pub mod Rules
 pub mod Parts
 pub mod Nesting

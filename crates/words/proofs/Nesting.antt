@@ -2,7 +2,7 @@
 use Rattle.std.proofs.Common.{◌≡◌, ℕ, ◌-◌, ◌<◌, List, IfOk, Ok, Err, codes, Result, sym, refl, ap, ◌∙◌, subst, arith}
 use Rattle.cam.specs.declared.fault.Fault.{Fault}
 use Rattle.words.specs.declared.token.Kind.TheVariants.{Open, Close, Word}
-use Rattle.words.specs.declared.token.Token.{Token}
+use Rattle.words.specs.Lexing.{Token}
 use Rattle.words.specs.Lexing.{Lexed}
 use Rattle.words.specs.Readings.{Then, on, off}
 use Rattle.words.specs.Forms.{not_wanted, WordNext, Ahead}

@@ -1,14 +1,17 @@
 -- The readers of one token: each reads one thing only, and where it ends. Assumes nothing.
-use Rattle.std.proofs.Common.{ℕ, ◌≤◌, List, IfOk, Ok, Result, refl, arith}
+use Rattle.std.proofs.Common.{◌≡◌, ℕ, ◌≤◌, Bool, true, false, Decides, List, Option, Some, None, MatchOption, Err, IfOk, Ok, Result, sym, ap, ◌∙◌, refl, arith}
 use Rattle.std.proofs.lemmas.Result.{IfOk-weaker}
+use Rattle.std.specs.Option.{ok_or}
 use Rattle.cam.specs.declared.fault.Fault.{Fault}
 use Rattle.words.specs.declared.token.Kind.{Kind}
-use Rattle.words.specs.declared.token.Token.{Token}
-use Rattle.words.specs.declared.form.Choice.{Choice}
-use Rattle.words.specs.Lexing.{Lexed, Lies}
-use Rattle.words.specs.Forms.{Wants, wanted, unwanted, WantsWord, spelt, misspelt, WantsName, named, nameless, WantsEither, first, second, neither, Next, WordNext, NameNext, EitherNext, Ahead}
+use Rattle.words.specs.Readings.{on, off, Gathered, gathered, come_to}
+use Rattle.words.specs.Lexing.{Token, Lexed, Lies, bytes_of}
+use Rattle.words.specs.declared.token.Token.{Token as Read}
+use Rattle.words.specs.Tokens.{token_to, SaysWord}
+use Rattle.words.specs.Choosing.{WantsOneOf, known, unknown, OneOfNext}
+use Rattle.words.specs.Forms.{not_wanted, Spells, Wants, wanted, unwanted, WantsWord, spelt, misspelt, WantsName, named, nameless, WantsEither, first, second, neither, Next, WordNext, NameNext, EitherNext, Ahead}
 use Rattle.words.proofs.Rules.{One, then_one, then_made}
-use Rattle.words.proofs.Lexemes.{lexed_one, lexed_lies}
+use Rattle.words.proofs.Lexemes.{clash, lexed_one, lexed_lies}
 
 wants_one : (k : Kind) (t : Token) → One (Wants k t)
 wants_one k t _ _ (wanted p) (wanted q) = refl
@@ -80,10 +83,37 @@ name_lies text a t _ x (nameless p) = tt
 pub name_next_lies : (text : List ℕ) (a : ℕ) (r : Result Token Fault) → NameNext text a r → IfOk r (Lies text a)
 name_next_lies text a r = then_made (Lies text a) (name_lies text a)
 
-either_ahead : (v w text : List ℕ) (a : ℕ) (t : Token) (s : Result Choice Fault) → Lexed text a (Ok t) → WantsEither v w text t s → IfOk s (λ d. Ahead text a d.to)
+either_ahead : (v w text : List ℕ) (a : ℕ) (t : Token) (s : Result (Gathered Bool) Fault) → Lexed text a (Ok t) → WantsEither v w text t s → IfOk s (λ d. Ahead text a d.to)
 either_ahead v w text a t _ x (first p) = token_ahead x
 either_ahead v w text a t _ x (second n p) = token_ahead x
 either_ahead v w text a t _ x (neither n m) = tt
 
-pub either_next_ahead : (v w text : List ℕ) (a : ℕ) (r : Result Choice Fault) → EitherNext v w text a r → IfOk r (λ d. Ahead text a d.to)
+pub either_next_ahead : (v w text : List ℕ) (a : ℕ) (r : Result (Gathered Bool) Fault) → EitherNext v w text a r → IfOk r (λ d. Ahead text a d.to)
 either_next_ahead v w text a r = then_made (λ d. Ahead text a d.to) (either_ahead v w text a)
+
+-- a token of the code says a word where the token of the text that it stands for does
+pub says : {text w : List ℕ} {e : ℕ} {t : Read} {b : Bool} → Decides b (SaysWord t w) → t.bytes.now ≡ bytes_of text (token_to e t) → b ≡ true → Spells text (token_to e t) w
+says d s e = let h = d.0 e in record { kind = h.kind; is = sym s ∙ h.is }
+
+pub says_not : {text w : List ℕ} {e : ℕ} {t : Read} {b : Bool} → Decides b (SaysWord t w) → t.bytes.now ≡ bytes_of text (token_to e t) → b ≡ false → Spells text (token_to e t) w → ⊥
+says_not d s e h = clash _ (d.1 (record { kind = h.kind; is = s ∙ h.is })) e
+
+-- one of several words, of which no two are one word
+one_of_one : {X : Type 0} (spelling : X → List ℕ) → ((x y : X) → spelling x ≡ spelling y → x ≡ y) → (text : List ℕ) (t : Token) → One (WantsOneOf spelling text t)
+one_of_one spelling differ text t _ _ (known x p) (known y q) = ap (λ z. Ok (gathered z t.to)) (differ x y (sym p.is ∙ q.is))
+one_of_one spelling differ text t _ _ (known x p) (unknown q) = absurd (q x p)
+one_of_one spelling differ text t _ _ (unknown p) (known y q) = absurd (p y q)
+one_of_one spelling differ text t _ _ (unknown p) (unknown q) = refl
+
+pub one_of_next_one : {X : Type 0} (spelling : X → List ℕ) → ((x y : X) → spelling x ≡ spelling y → x ≡ y) → (text : List ℕ) (a : ℕ) → One (OneOfNext spelling text a)
+one_of_next_one spelling differ text a = then_one (Lexed text a) (WantsOneOf spelling text) (lexed_one text a) (one_of_one spelling differ text)
+
+-- a word and the value that it writes, or none
+pub chosen : {X : Type 0} (spelling : X → List ℕ) (text : List ℕ) (a : ℕ) (u : Token) (w : List ℕ) (o : Option X) → w ≡ bytes_of text u → MatchOption o ((x : X) → w ≡ spelling x → ⊥) (λ x. w ≡ spelling x) → NameNext text a (Ok u) → OneOfNext spelling text a (come_to u.to (ok_or o (not_wanted u.from)))
+chosen spelling text a u w (Some x) s m (on l (named k)) = on l (known x (record { kind = k; is = sym s ∙ m }))
+chosen spelling text a u w None s m (on l (named k)) = on l (unknown (λ x h. m x (s ∙ h.is)))
+
+-- where no word comes, no value does
+pub no_word : {X : Type 0} (spelling : X → List ℕ) (text : List ℕ) (a : ℕ) (f : Fault) → NameNext text a (Err f) → OneOfNext spelling text a (Err f)
+no_word spelling text a f (off l) = off l
+no_word spelling text a _ (on l (nameless n)) = on l (unknown (λ x h. n h.kind))

@@ -6,7 +6,7 @@ use Rattle.cam.specs.declared.fault.Fault.{Fault}
 use Rattle.march.specs.Every.{every}
 use Rattle.march.specs.Letters.{is_letter_or_digit}
 use Rattle.words.specs.declared.token.Kind.TheVariants.{Open, Close, LineFeed, Word, End}
-use Rattle.words.specs.declared.token.Token.{Token}
+use Rattle.words.specs.Lexing.{Token}
 use Rattle.words.specs.Lexing.{Skips, Runs, Lexed, ends, opens, closes, feeds, others, word, token}
 use Rattle.words.specs.Readings.{Then, on}
 use Rattle.words.specs.Forms.{Spells, Next, wanted, WordNext, spelt, NameNext, named, EitherNext, first, second, BitNext}

@@ -1,15 +1,13 @@
 -- Layer 2 of a text, its smallest parts: one token that the grammar wants, and the fault if another comes.
-use Rattle.std.specs.Prelude.{◌≡◌, ℕ, ◌≤◌, true, false, List, length, Ok, Err, codes, Result, ◌≢◌}
+use Rattle.std.specs.Prelude.{◌≡◌, ℕ, ◌≤◌, Bool, true, false, List, length, Ok, Err, codes, Result, ◌≢◌}
 use Rattle.cam.specs.declared.fault.Reason.{Reason}
 use Rattle.cam.specs.declared.fault.Reason.TheVariants.{NotWanted}
 use Rattle.cam.specs.declared.fault.Layer.TheVariants.{Forms, Meaning}
 use Rattle.cam.specs.declared.fault.Fault.{Fault}
 use Rattle.words.specs.declared.token.Kind.{Kind}
 use Rattle.words.specs.declared.token.Kind.TheVariants.{Word}
-use Rattle.words.specs.declared.token.Token.{Token}
-use Rattle.words.specs.declared.form.Choice.{Choice}
-use Rattle.words.specs.Lexing.{Lexed, bytes_of}
-use Rattle.words.specs.Readings.{Then}
+use Rattle.words.specs.Lexing.{Token, Lexed, bytes_of}
+use Rattle.words.specs.Readings.{Then, Gathered, gathered}
 
 -- the fault of a token that the grammar does not want, at its first byte, or at the text's length where the text ends
 abbrev pub not_wanted : ℕ → Fault
@@ -40,9 +38,9 @@ pub data WantsName (t : Token) : Result Token Fault → Type 0 where
   nameless : (t.kind ≢ Word) → WantsName t (Err (not_wanted t.from))
 
 -- the word v or the word w is wanted; it answers false for v and true for w
-pub data WantsEither (v w text : List ℕ) (t : Token) : Result Choice Fault → Type 0 where
-  first : Spells text t v → WantsEither v w text t (Ok (record { value = false; to = t.to }))
-  second : (Spells text t v → ⊥) → Spells text t w → WantsEither v w text t (Ok (record { value = true; to = t.to }))
+pub data WantsEither (v w text : List ℕ) (t : Token) : Result (Gathered Bool) Fault → Type 0 where
+  first : Spells text t v → WantsEither v w text t (Ok (gathered false t.to))
+  second : (Spells text t v → ⊥) → Spells text t w → WantsEither v w text t (Ok (gathered true t.to))
   neither : (Spells text t v → ⊥) → (Spells text t w → ⊥) → WantsEither v w text t (Err (not_wanted t.from))
 
 -- and the same of the token that comes next in the text, from `a` on
@@ -55,11 +53,11 @@ WordNext w text a = Then (Lexed text a) (WantsWord w text)
 abbrev pub NameNext : List ℕ → ℕ → Result Token Fault → Type 0
 NameNext text a = Then (Lexed text a) WantsName
 
-abbrev pub EitherNext : List ℕ → List ℕ → List ℕ → ℕ → Result Choice Fault → Type 0
+abbrev pub EitherNext : List ℕ → List ℕ → List ℕ → ℕ → Result (Gathered Bool) Fault → Type 0
 EitherNext v w text a = Then (Lexed text a) (WantsEither v w text)
 
 -- a bit is exactly the word 0 or the word 1
-abbrev pub BitNext : List ℕ → ℕ → Result Choice Fault → Type 0
+abbrev pub BitNext : List ℕ → ℕ → Result (Gathered Bool) Fault → Type 0
 BitNext = EitherNext (codes "0") (codes "1")
 
 -- the place e lies in the text, and not before `a`

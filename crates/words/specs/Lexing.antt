@@ -1,21 +1,25 @@
 -- Layer 1 of a text: its length, its bytes, and which token stands next.
 use Rattle.std.specs.Prelude.{◌≡◌, ℕ, ◌+◌, ◌-◌, ◌<◌, ◌≤◌, true, false, List, length, take, drop, Ok, Err, Result, ◌≢◌, slice_index}
+use Rattle.cam.specs.declared.fault.Reason.{Reason}
 use Rattle.cam.specs.declared.fault.Reason.TheVariants.{TextTooLong, ByteNotAllowed, WordTooLong}
 use Rattle.cam.specs.declared.fault.Layer.TheVariants.{Words}
 use Rattle.cam.specs.declared.fault.Fault.{Fault}
 use Rattle.march.specs.Letters.{is_letter_or_digit}
 use Rattle.words.specs.declared.token.Kind.{Kind}
 use Rattle.words.specs.declared.token.Kind.TheVariants.{Open, Close, LineFeed, Word, End}
-use Rattle.words.specs.declared.token.Token.{Token}
+
+-- a fault of the words
+abbrev pub word_fault : Reason → ℕ → Fault
+word_fault reason p = record { reason = reason; layer = Words; place = p }
 
 abbrev pub text_too_long : Fault
-text_too_long = record { reason = TextTooLong; layer = Words; place = 4096 }
+text_too_long = word_fault TextTooLong 4096
 
 abbrev pub byte_not_allowed : ℕ → Fault
-byte_not_allowed p = record { reason = ByteNotAllowed; layer = Words; place = p }
+byte_not_allowed = word_fault ByteNotAllowed
 
 abbrev pub word_too_long : ℕ → Fault
-word_too_long p = record { reason = WordTooLong; layer = Words; place = p }
+word_too_long = word_fault WordTooLong
 
 -- a text has at most 4,096 bytes
 pub data Measured (text : List ℕ) : Result (Unit {0}) Fault → Type 0 where
@@ -35,6 +39,12 @@ pub record Runs (text : List ℕ) (p e : ℕ) : Type 0 where
   pub within : e ≤ length text
   pub letters : (k : ℕ) → p ≤ k → k < e → is_letter_or_digit (slice_index text k) ≡ true
   pub stops : e < length text → is_letter_or_digit (slice_index text e) ≡ false
+
+-- a token, and the bytes that it has: those from `from` up to `to`
+pub record Token : Type 0 where
+  pub kind : Kind
+  pub from : ℕ
+  pub to : ℕ
 
 -- the bytes of a token
 abbrev pub bytes_of : List ℕ → Token → List ℕ

@@ -1,5 +1,7 @@
 pub mod Readings
 pub mod Lexing
+pub mod Tokens
 pub mod Forms
+pub mod Choosing
 pub mod Remarks
 pub mod Listings

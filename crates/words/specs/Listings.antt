@@ -2,22 +2,9 @@
 use Rattle.std.specs.Prelude.{◌≡◌, ℕ, List, Ok, Err, Result, ◌≢◌}
 use Rattle.cam.specs.declared.fault.Fault.{Fault}
 use Rattle.words.specs.declared.token.Kind.TheVariants.{Open, Close}
-use Rattle.words.specs.declared.token.Token.{Token}
-use Rattle.words.specs.Lexing.{Lexed}
+pub use Rattle.words.specs.Readings.{Gathered, gathered, leaving}
+use Rattle.words.specs.Lexing.{Token, Lexed}
 use Rattle.words.specs.Forms.{not_wanted}
-
--- what was gathered so far, and the place after it
-pub record Gathered (X : Type 0) : Type 0 where
-  pub value : X
-  pub to : ℕ
-
-abbrev pub gathered : {X : Type 0} → X → ℕ → Gathered X
-gathered x e = record { value = x; to = e }
-
--- what a reader answers, which gives the place and leaves the value elsewhere
-abbrev pub leaving : {X : Type 0} → X → Result ℕ Fault → Result (Gathered X) Fault
-leaving x (Ok e) = Ok (gathered x e)
-leaving x (Err f) = Err f
 
 -- Listing Enough Piece text x a r: where x was gathered so far, what follows at `a` gives r. A piece is read from its
 -- opening bracket on and adds to x; the list may end where there is Enough.

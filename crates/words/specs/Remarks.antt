@@ -4,8 +4,7 @@ use Rattle.cam.specs.declared.fault.Reason.TheVariants.{RemarkTooDeep}
 use Rattle.cam.specs.declared.fault.Layer.TheVariants.{Forms}
 use Rattle.cam.specs.declared.fault.Fault.{Fault}
 use Rattle.words.specs.declared.token.Kind.TheVariants.{Open, Close, Word}
-use Rattle.words.specs.declared.token.Token.{Token}
-use Rattle.words.specs.Lexing.{Lexed}
+use Rattle.words.specs.Lexing.{Token, Lexed}
 use Rattle.words.specs.Forms.{not_wanted, WordNext}
 
 abbrev pub remark_too_deep : ℕ → Fault

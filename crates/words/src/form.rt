@@ -1,18 +1,14 @@
 // Layer 2, its smallest parts: readers of one token that the grammar wants.
-ghost use Rattle.std.specs.Prelude.{◌≡◌, ◌≤◌, length, IfOk, codes, Decides};
-ghost use Rattle.words.specs.Forms.{not_wanted, Spells, Next, WordNext, NameNext, EitherNext, BitNext, Ahead};
-ghost use Rattle.words.specs.Lexing.{Lies};
-ghost use Rattle.words.specs.Readings.{Reading};
+ghost use Rattle.std.specs.Prelude.{◌≡◌, ℕ, ◌≤◌, List, IfOk, MatchOption};
+ghost use Rattle.words.specs.Choosing.{OneOfNext};
+ghost use Rattle.words.specs.Forms.{not_wanted, Next, WordNext, NameNext, EitherNext, BitNext};
+ghost use Rattle.words.specs.Lexing.{Lies, bytes_of};
+ghost use Rattle.words.specs.Readings.{Reading, come_to, reached};
+ghost use Rattle.words.specs.Tokens.{token_to, lexed_to};
 
-use crate::token::{Kind, Token, next_token};
+use crate::cursor::Cursor;
+use crate::token::{Kind, Token};
 use cam::fault::{Fault, Layer, Reason};
-
-// Which of two words was read, and the place after it.
-#[derive(Clone, Copy)]
-pub struct Choice {
-    pub value: bool,
-    pub to: usize,
-}
 
 // The fault of a token that the grammar does not want.
 pub fn not_wanted(place: usize) -> Fault
@@ -25,83 +21,93 @@ pub fn not_wanted(place: usize) -> Fault
     }
 }
 
-// Whether a token is this word.
-pub fn spells(text: &[u8], token: Token, word: &[u8]) -> bool
-    requires ordered { token.from ≤ token.to }
-    requires inside { token.to ≤ length text.now }
-    ensures word_told { Decides result (Spells text.now token word.now) }
-{
-    let from = token.from;
-    let to = token.to;
-    match token.kind {
-        Kind::Word => &text[from..to] == word,
-        _ => false,
-    }
+// A type of which each value is written as one word.
+pub trait Spelled {
+    ghost spelling: { Self → List ℕ };
+
+    // The value that is written so.
+    fn spelled(word: &[u8]) -> Option<Self>
+        ensures value_of_word { MatchOption result ((x : Self) → word.now ≡ spelling x → ⊥) (λ x. word.now ≡ spelling x) };
+
+    ghost differ: { (x y : Self) → spelling x ≡ spelling y → x ≡ y };
 }
 
-// The place after the bracket, the line feed or the end that must come next.
-pub fn want(text: &[u8], at: usize, kind: Kind) -> Result<usize, Fault>
-    requires starts_inside { at ≤ length text.now }
-    ensures reading { Reading (Next kind text.now at) result }
-    ensures ahead { IfOk result (Ahead text.now at) }
-{
-    let token = next_token(text, at)?;
-    if token.kind == kind {
-        Ok(token.to)
-    } else {
-        Err(not_wanted(token.from))
+impl<'a> Cursor<'a> {
+    // Reads the bracket, the line feed or the end that must come next.
+    pub fn want(&mut self, kind: Kind) -> Result<(), Fault>
+        ensures reading { Reading (Next kind self.old.text.now self.old.at) (reached self.new.at result) }
+        ensures text_stays { self.new.text.now ≡ self.old.text.now }
+        ensures goes_on { self.old.at ≤ self.new.at }
+    {
+        let token = self.next_token()?;
+        if token.kind == kind {
+            Ok(())
+        } else {
+            Err(not_wanted(token.from))
+        }
     }
-}
 
-// The place after the word that must come next.
-pub fn want_word(text: &[u8], at: usize, word: &[u8]) -> Result<usize, Fault>
-    requires starts_inside { at ≤ length text.now }
-    ensures reading { Reading (WordNext word.now text.now at) result }
-    ensures ahead { IfOk result (Ahead text.now at) }
-{
-    let token = next_token(text, at)?;
-    if spells(text, token, word) {
-        Ok(token.to)
-    } else {
-        Err(not_wanted(token.from))
+    // Reads the word that must come next.
+    pub fn want_word(&mut self, word: &[u8]) -> Result<(), Fault>
+        ensures reading { Reading (WordNext word.now self.old.text.now self.old.at) (reached self.new.at result) }
+        ensures text_stays { self.new.text.now ≡ self.old.text.now }
+        ensures goes_on { self.old.at ≤ self.new.at }
+    {
+        let token = self.next_token()?;
+        if token.spells(word) {
+            Ok(())
+        } else {
+            Err(not_wanted(token.from))
+        }
     }
-}
 
-// The word that comes next, whichever it is.
-pub fn any_word(text: &[u8], at: usize) -> Result<Token, Fault>
-    requires starts_inside { at ≤ length text.now }
-    ensures reading { Reading (NameNext text.now at) result }
-    ensures lies { IfOk result (Lies text.now at) }
-{
-    let token = next_token(text, at)?;
-    match token.kind {
-        Kind::Word => Ok(token),
-        _ => Err(not_wanted(token.from)),
+    // Reads the word that comes next, whichever it is.
+    pub fn any_word(&mut self) -> Result<Token<'a>, Fault>
+        ensures reading { Reading (NameNext self.old.text.now self.old.at) (lexed_to self.new.at result) }
+        ensures lies { IfOk result (λ t. Lies self.old.text.now self.old.at (token_to self.new.at t)) }
+        ensures spelling { IfOk result (λ t. t.bytes.now ≡ bytes_of self.old.text.now (token_to self.new.at t)) }
+        ensures text_stays { self.new.text.now ≡ self.old.text.now }
+        ensures goes_on { self.old.at ≤ self.new.at }
+    {
+        let token = self.next_token()?;
+        match token.kind {
+            Kind::Word => Ok(token),
+            _ => Err(not_wanted(token.from)),
+        }
     }
-}
 
-// Which of two words comes next.
-pub fn either_word(text: &[u8], at: usize, no: &[u8], yes: &[u8]) -> Result<Choice, Fault>
-    requires starts_inside { at ≤ length text.now }
-    ensures reading { Reading (EitherNext no.now yes.now text.now at) result }
-    ensures ahead { IfOk result (λ d. Ahead text.now at d.to) }
-{
-    let token = next_token(text, at)?;
-    let to = token.to;
-    if spells(text, token, no) {
-        Ok(Choice { value: false, to })
-    } else if spells(text, token, yes) {
-        Ok(Choice { value: true, to })
-    } else {
-        Err(not_wanted(token.from))
+    // Reads the value that the next word writes.
+    pub fn one_of<T: Spelled + Drop>(&mut self) -> Result<T, Fault>
+        ensures reading { Reading (OneOfNext T.spelling self.old.text.now self.old.at) (come_to self.new.at result) }
+        ensures text_stays { self.new.text.now ≡ self.old.text.now }
+        ensures goes_on { self.old.at ≤ self.new.at }
+    {
+        let word = self.any_word()?;
+        T::spelled(word.bytes).ok_or(not_wanted(word.from))
     }
-}
 
-// The bit that comes next: the word 0 or the word 1.
-pub fn bit_word(text: &[u8], at: usize) -> Result<Choice, Fault>
-    requires starts_inside { at ≤ length text.now }
-    ensures reading { Reading (BitNext text.now at) result }
-    ensures ahead { IfOk result (λ d. Ahead text.now at d.to) }
-{
-    either_word(text, at, b"0", b"1")
+    // Reads which of two words comes next.
+    pub fn either_word(&mut self, no: &[u8], yes: &[u8]) -> Result<bool, Fault>
+        ensures reading { Reading (EitherNext no.now yes.now self.old.text.now self.old.at) (come_to self.new.at result) }
+        ensures text_stays { self.new.text.now ≡ self.old.text.now }
+        ensures goes_on { self.old.at ≤ self.new.at }
+    {
+        let token = self.next_token()?;
+        if token.spells(no) {
+            Ok(false)
+        } else if token.spells(yes) {
+            Ok(true)
+        } else {
+            Err(not_wanted(token.from))
+        }
+    }
+
+    // Reads the bit that comes next: the word 0 or the word 1.
+    pub fn bit_word(&mut self) -> Result<bool, Fault>
+        ensures reading { Reading (BitNext self.old.text.now self.old.at) (come_to self.new.at result) }
+        ensures text_stays { self.new.text.now ≡ self.old.text.now }
+        ensures goes_on { self.old.at ≤ self.new.at }
+    {
+        self.either_word(b"0", b"1")
+    }
 }

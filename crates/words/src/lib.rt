@@ -1,7 +1,9 @@
 // What sheets and array texts have in common: their words, brackets and line feeds, the readers of single tokens, and
-// remarks. Each reader answers the place after what it read, or the fault that comes first.
+// remarks. Each reader moves the cursor past what it read, or answers the fault that comes first.
 #![tactic(auto)]
 
+pub mod cursor;
 pub mod form;
+pub mod meaning;
 pub mod remark;
 pub mod token;

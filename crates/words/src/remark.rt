@@ -1,49 +1,50 @@
 // Remarks: `(note`, then words and inner remarks, then `)`.
-ghost use Rattle.std.specs.Prelude.{◌≤◌, length, IfOk};
-ghost use Rattle.words.specs.Forms.{Ahead};
-ghost use Rattle.words.specs.Readings.{Reading};
+ghost use Rattle.std.specs.Prelude.{◌≡◌, ◌≤◌};
+ghost use Rattle.words.specs.Readings.{Reading, reached};
 ghost use Rattle.words.specs.Remarks.{Remark, Outermost};
 
-use crate::form::{not_wanted, want_word};
-use crate::token::{Kind, next_token};
+use crate::cursor::Cursor;
+use crate::form::not_wanted;
+use crate::token::Kind;
 use cam::fault::{Fault, Layer, Reason};
 
 // How many more remarks may open inside an outermost one, each in the one before.
 const INNER_DEPTH: u8 = 7;
 
-// Reads an outermost remark from after its word `note`, up to the place after its bracket.
-pub fn outermost_remark(text: &[u8], at: usize) -> Result<usize, Fault>
-    requires starts_inside { at ≤ length text.now }
-    ensures reading { Reading (Outermost text.now at) result }
-    ensures ahead { IfOk result (Ahead text.now at) }
-{
-    remark(text, at, INNER_DEPTH)
-}
+impl Cursor<'_> {
+    // Reads an outermost remark from after its word `note`, up to the place after its bracket.
+    pub fn outermost_remark(&mut self) -> Result<(), Fault>
+        ensures reading { Reading (Outermost self.old.text.now self.old.at) (reached self.new.at result) }
+        ensures text_stays { self.new.text.now ≡ self.old.text.now }
+        ensures goes_on { self.old.at ≤ self.new.at }
+    {
+        self.remark(INNER_DEPTH)
+    }
 
-// Reads a remark from after its word `note`. So many more may open inside it, each in the one before.
-fn remark(text: &[u8], at: usize, inner: u8) -> Result<usize, Fault>
-    requires starts_inside { at ≤ length text.now }
-    ensures reading { Reading (Remark text.now inner at) result }
-    ensures ahead { IfOk result (Ahead text.now at) }
-{
-    let mut place = at;
-    loop {
-        let token = next_token(text, place)?;
-        match token.kind {
-            Kind::Close => return Ok(token.to),
-            Kind::Word => place = token.to,
-            Kind::Open => {
-                if inner == 0 {
-                    return Err(Fault {
-                        reason: Reason::RemarkTooDeep,
-                        layer: Layer::Forms,
-                        place: token.from,
-                    });
+    // Reads a remark from after its word `note`. So many more may open inside it, each in the one before.
+    fn remark(&mut self, inner: u8) -> Result<(), Fault>
+        ensures reading { Reading (Remark self.old.text.now inner self.old.at) (reached self.new.at result) }
+        ensures text_stays { self.new.text.now ≡ self.old.text.now }
+        ensures goes_on { self.old.at ≤ self.new.at }
+    {
+        loop {
+            let token = self.next_token()?;
+            match token.kind {
+                Kind::Close => return Ok(()),
+                Kind::Word => {}
+                Kind::Open => {
+                    if inner == 0 {
+                        return Err(Fault {
+                            reason: Reason::RemarkTooDeep,
+                            layer: Layer::Forms,
+                            place: token.from,
+                        });
+                    }
+                    self.want_word(b"note")?;
+                    self.remark(inner - 1)?;
                 }
-                let inside = want_word(text, token.to, b"note")?;
-                place = remark(text, inside, inner - 1)?;
+                _ => return Err(not_wanted(token.from)),
             }
-            _ => return Err(not_wanted(token.from)),
         }
     }
 }
