@@ -1,1 +1,1 @@
-pub mod Overs
+pub mod Writing

@@ -1,35 +1,38 @@
-// Pieces of a line.
-ghost use Rattle.std.specs.Prelude.{◌≡◌, ◌+◌, ◌≤◌, ◌++◌, length, drop, decimal};
+// A line from its pieces.
+ghost use Rattle.std.specs.Prelude.{◌≡◌, ◌+◌, ◌≤◌, length, decimal, MatchResult};
 ghost use Rattle.cam.specs.Buffers.{over};
+ghost use Rattle.cam.specs.Refusals.{Asks};
+ghost use Rattle.report.specs.Text.{Made, line_questions};
+ghost use Rattle.report.specs.Pieces.{line_of, longest};
 
 use cam::buffer::put_text;
-
-// The digits of a number without leading zeros: those from the place on that is given with them.
-fn digits(number: u32) -> ([u8; 10], usize)
-    ensures digits_from_the_place { drop result.1 result.0 ≡ decimal number }
-    ensures place_within { result.1 ≤ 10 }
-    ensures ten_places { length result.0 ≡ 10 }
-{
-    let mut row = [0u8; 10];
-    let mut from = 10usize;
-    let mut rest = number;
-    while rest >= 10 {
-        from -= 1;
-        row[from] = b'0' + (rest % 10) as u8;
-        rest /= 10;
-    }
-    from -= 1;
-    row[from] = b'0' + rest as u8;
-    (row, from)
-}
+use cam::fault::{Fault, Reason};
+use itoa::Buffer;
 
 // Writes a number from a place of a buffer on, and gives the place after it.
-pub(crate) fn put_number(buffer: &mut [u8], at: usize, number: u32) -> usize
+fn put_number(buffer: &mut [u8], at: usize, number: u32) -> usize
     requires room { at + 10 ≤ length buffer.old }
     ensures written_over { buffer.new ≡ over buffer.old at (decimal number) }
     ensures place_after { result ≡ at + length (decimal number) }
     ensures at_most_ten { length (decimal number) ≤ 10 }
 {
-    let (row, from) = digits(number);
-    put_text(buffer, at, &row[from..10])
+    put_text(buffer, at, Buffer::new().format(number).as_bytes())
+}
+
+// Makes a line of labels with a number after each, and an end, at the front of a buffer of 64 bytes or more (57), and
+// gives its length.
+pub(crate) fn line(buffer: &mut [u8], pieces: &[(&[u8], u32)], end: &[u8]) -> Result<usize, Fault>
+    requires short { longest pieces.now + length end.now ≤ 64 }
+    ensures asks_in_order { Asks (line_questions (length buffer.old)) result }
+    ensures every_byte { MatchResult result (λ n. Made (line_of pieces.now end.now) n buffer.old buffer.new) (λ _. buffer.new ≡ buffer.old) }
+{
+    if buffer.len() < 64 {
+        return Err(Fault::of_call(Reason::BufferTooShort));
+    }
+    let mut at = 0;
+    for (label, number) in pieces {
+        at = put_text(buffer, at, label);
+        at = put_number(buffer, at, *number);
+    }
+    Ok(put_text(buffer, at, end))
 }

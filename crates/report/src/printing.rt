@@ -1,0 +1,83 @@
+// Printing a judgement or a refusal to any writer.
+ghost use Rattle.std.specs.Prelude.{◌≡◌, ◌*◌, ◌<◌, min, length, take, IfOk, OnOk};
+ghost use Rattle.std.specs.Io.KnownBytes.{Appends};
+ghost use Rattle.cam.specs.Refusals.{Asks, reason_number, layer_number};
+ghost use Rattle.report.specs.Text.{refused_line, largest_place, line_questions};
+ghost use Rattle.report.specs.Printed.{marked_line, cell_lines, judgement_lines};
+
+use crate::lines::{array_line, cell_line, chart_line, refused_line, run_line};
+use bench::judging::Judgement;
+use cam::fault::Fault;
+use cam::index::{CellIndex, ColumnIndex, WordIndex};
+use cam::size::Size;
+use std::io;
+use std::io::Write;
+
+// Prints a line that was made at the front of a buffer, which 64 bytes always grant.
+fn print_line<W: Write>(
+    out: &mut W,
+    buffer: &[u8; 64],
+    made: Result<usize, Fault>,
+) -> io::Result<()>
+    requires granted { Asks (line_questions 64) made }
+    ensures line_appended { OnOk result (IfOk made (λ n. Appends (W.contents out.old) (W.contents out.new) (take n buffer.now))) }
+{
+    let Ok(length) = made else { unreachable!() };
+    out.write_all(&buffer[..length.min(64)])
+}
+
+// Prints the line of the cell at a place of a chart.
+fn print_cell<W: Write>(out: &mut W, size: Size, place: usize, byte: u8) -> io::Result<()>
+    requires place_of_a_cell { place < size.words * size.width }
+    ensures line_appended { OnOk result (Appends (W.contents out.old) (W.contents out.new) (marked_line size.width place byte)) }
+{
+    if byte == 0 {
+        return Ok(());
+    }
+    let width = size.width as usize;
+    let cell = CellIndex {
+        word: WordIndex {
+            number: (place / width) as u16,
+        },
+        column: ColumnIndex {
+            number: (place % width) as u8,
+        },
+    };
+    let mut buffer = [0u8; 64];
+    let made = cell_line(&mut buffer, cell, byte);
+    print_line(out, &buffer, made)
+}
+
+// Prints a line for each cell whose byte of a chart is above 0.
+fn print_cells<W: Write>(out: &mut W, size: Size, chart: &[u8]) -> io::Result<()>
+    ensures lines_appended { OnOk result (Appends (W.contents out.old) (W.contents out.new) (cell_lines size.width (take (size.words * size.width) chart.now))) }
+{
+    let end = chart.len().min(size.cells() as usize);
+    for (place, byte) in chart[..end].iter().enumerate() {
+        print_cell(out, size, place, *byte)?;
+    }
+    Ok(())
+}
+
+// Prints the lines of the array, the run and the chart, and a line for each cell that the chart shows as blemished.
+pub fn print_judgement<W: Write>(out: &mut W, judgement: Judgement, chart: &[u8]) -> io::Result<()>
+    ensures lines_appended { OnOk result (Appends (W.contents out.old) (W.contents out.new) (judgement_lines judgement chart.now)) }
+{
+    let mut buffer = [0u8; 64];
+    let made = array_line(&mut buffer, judgement.size);
+    print_line(out, &buffer, made)?;
+    let made = run_line(&mut buffer, judgement.operations, judgement.finding.count());
+    print_line(out, &buffer, made)?;
+    let made = chart_line(&mut buffer, judgement.charting, judgement.blemished);
+    print_line(out, &buffer, made)?;
+    print_cells(out, judgement.size, chart)
+}
+
+// Prints the line of a refusal.
+pub fn print_refused<W: Write>(out: &mut W, fault: Fault) -> io::Result<()>
+    ensures line_appended { OnOk result (Appends (W.contents out.old) (W.contents out.new) (refused_line (reason_number fault.reason) (layer_number fault.layer) (min fault.place largest_place))) }
+{
+    let mut buffer = [0u8; 64];
+    let made = refused_line(&mut buffer, fault);
+    print_line(out, &buffer, made)
+}
