@@ -32,7 +32,7 @@ impl<C: CamArray> Bench<C> {
         if buffer.len() < size.cells() as usize {
             return Err(Fault::of_call(Reason::BufferTooShort));
         }
-        if !self.has_room(operation_count(size.words, size.width)) {
+        if !self.has_room(operation_count(size)) {
             return Err(Fault::of_call(Reason::LimitPassed));
         }
         let finding = Finding::Charted(draw(&mut self.array, buffer));

@@ -51,8 +51,7 @@ fn may_judge<C: CamArray>(array: &C, bytes: usize) -> Result<(), Fault>
     ensures asks_in_order { Asks (judge_questions (C.build array.now) (C.state array.now) bytes) result }
 {
     let size = size_of(array);
-    let operations = table::operation_count(size.words, size.width) as u64
-        + drawing::operation_count(size.words, size.width) as u64;
+    let operations = table::operation_count(size) as u64 + drawing::operation_count(size) as u64;
     if bytes < size.cells() as usize {
         Err(Fault::of_call(Reason::BufferTooShort))
     } else if array.tally() + operations > LIMIT {
@@ -77,9 +76,9 @@ fn judge_on<C: CamArray>(bench: &mut Bench<C>, buffer: &mut [u8]) -> Result<Judg
     let charted = bench.chart(buffer)?;
     Ok(Judgement {
         size,
-        operations: table::operation_count(size.words, size.width),
+        operations: table::operation_count(size),
         finding,
-        charting: drawing::operation_count(size.words, size.width),
+        charting: drawing::operation_count(size),
         blemished: charted.count(),
     })
 }

@@ -9,6 +9,7 @@ use crate::bench::{Bench, LIMIT};
 use crate::books::{Finding, NotClosed, Ticket};
 use cam::array::CamArray;
 use cam::fault::{Fault, Reason};
+use cam::size::size_of;
 use mlt1::state::RunState;
 use mlt1::table::operation_count;
 
@@ -23,7 +24,7 @@ impl<C: CamArray> Bench<C> {
         if self.books.run.is_some() {
             return Err(Fault::of_call(Reason::RunInHand));
         }
-        let operations = operation_count(self.array.words(), self.array.width());
+        let operations = operation_count(size_of(&self.array));
         if !self.has_room(operations) || self.books.starts >= LIMIT {
             return Err(Fault::of_call(Reason::LimitPassed));
         }
@@ -51,7 +52,7 @@ impl<C: CamArray> Bench<C> {
         ensures that_in_hand { IfOk result (λ run. self.now.books.run ≡ Some run) }
     {
         let run = self.run_of(number)?;
-        if run.place() != operation_count(self.array.words(), self.array.width()) {
+        if run.place() != operation_count(size_of(&self.array)) {
             return Err(Fault::of_call(Reason::RunNotAtEnd));
         }
         Ok(run)

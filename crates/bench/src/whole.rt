@@ -11,6 +11,7 @@ use crate::bench::Bench;
 use crate::books::{Finding, NotClosed};
 use cam::array::CamArray;
 use cam::fault::Fault;
+use cam::size::size_of;
 use mlt1::table::operation_count;
 
 impl<C: CamArray> Bench<C> {
@@ -24,7 +25,7 @@ impl<C: CamArray> Bench<C> {
         ensures state_after_the_schedule { MatchResult result (λ _. C.state self.new.array ≡ after (C.build self.old.array) (schedule (C.build self.old.array).words (C.build self.old.array).width mlt1) (C.state self.old.array)) (λ _. self.new ≡ self.old) }
         ensures build_stays { C.build self.new.array ≡ C.build self.old.array }
     {
-        let operations = operation_count(self.array.words(), self.array.width());
+        let operations = operation_count(size_of(&self.array));
         let ticket = self.start()?;
         let _ = self.step(&ticket, operations);
         self.close(ticket).map_err(NotClosed::let_go)

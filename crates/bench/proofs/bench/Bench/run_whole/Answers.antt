@@ -19,7 +19,7 @@ returns g c =
     let done = all_done B S x0.books (m.build x1.array) (m.build x2.array) (m.state x1.array) (m.state x2.array) x1.books x2.books
     c.in_ok-ticket.ticket.number c.operation_count-operations.result c.step.result _ _ _ formed
     (ap m.build begun.array_stays) (ap m.state begun.array_stays) begun.started_or_unchanged begun.ticket_with_the_number_of_starts
-    (c.operation_count-operations.ensures.eleven_a_word_two_a_column ∙ ap₂ (λ (n w : ℕ). 11 * n + 2 * w) c.words.ensures.word_count c.width.ensures.bits_of_word)
+    (c.operation_count-operations.ensures.eleven_a_word_two_a_column ∙ ap₂ (λ (n w : ℕ). 11 * n + 2 * w) c.size_of.ensures.words_of_the_array c.size_of.ensures.bits_of_the_array)
     went.asks_in_order went.most_or_all_left went.next_steps_done went.other_books_stay went.build_stays in
     -- the close is granted
     let ended = c.close.ensures in
