@@ -1,13 +1,17 @@
--- Cells side by side: one more of them read, compared or written.
-use Rattle.std.proofs.Common.{◌≡◌, ℕ, suc, ◌+◌, ◌-◌, ◌*◌, ◌%◌, ◌^◌, ◌<◌, ◌≤◌, Bool, true, false, cond, ◌&&◌, eqb, ltb, leb, List, map, length, get_or, set, sym, ap, ◌∙◌, mul-le-mul_right, add-mul, pow-suc, add-one, arith, pow_mono}
-use Rattle.std.proofs.lemmas.List.{get_or-map, map-set, get_or-set_same, get_or-set_other, length-map}
-use Rattle.std.proofs.lemmas.Bool.{eqb-true, eqb-false, ltb-true, ltb-false, cond-true, cond-false, lt-ltb, le-ltb, le-leb, lt-leb, both_ways, and_from, and_left, and_right}
-use Rattle.cam.specs.Model.{value, all_below}
-use Rattle.cam.proofs.Below.{split, each_below}
+-- Cells side by side: a row of them among all cells, one more of them read, and the cells after a row is written.
+use Rattle.std.proofs.Common.{◌≡◌, ℕ, suc, ◌+◌, ◌-◌, ◌*◌, ◌%◌, ◌^◌, ◌<◌, ◌≤◌, Bool, cond, eqb, ltb, ap₂, List, ◌++◌, map, length, get_or, set, take, drop, sym, ap, ◌∙◌, mul-le-mul_right, add-mul, pow-suc, arith, pow_mono}
+use Rattle.std.specs.List.{between}
+use borrow.Rule.Slice.PartMut.{put_mid}
+use Rattle.std.proofs.lemmas.List.{get_or-append-add, get_or-take, get_or-drop, drop-drop, length-take, get_or-map, map-set, map-append, take-map, drop-map, get_or-set_same, get_or-set_other, length-map}
+use Rattle.std.proofs.Math.ListN.{get_or-append}
+use Rattle.std.proofs.lemmas.List.Edits.{get_or-between}
+use Rattle.std.proofs.lemmas.Bool.{cond-true, cond-false, eqb-true, eqb-false, ltb-true, ltb-false, lt-ltb, le-ltb}
+use Rattle.cam.specs.Model.{value}
+use Rattle.cam.proofs.Below.{split}
 use Rattle.cam.proofs.BitLaws.{shl_one}
 use Rattle.cam.proofs.Patterns.{value_below}
 use Rattle.cells.specs.Meaning.{CellMeaning}
-use Rattle.cell_field.specs.Field.{blank_cell, at, wrote_cell, wrote_at}
+use Rattle.cell_field.specs.Row.{blank_cell, at, wrote_cell}
 
 module _ {X : Type 0} (f : X → CellMeaning) where
   -- the cell x that stands at the place i
@@ -22,6 +26,12 @@ module _ {X : Type 0} (f : X → CellMeaning) where
   pub cell_other : (xs : List X) (i k : ℕ) (y : X) → (k ≡ i → ⊥) → at (map f (set xs i y)) k ≡ at (map f xs) k
   cell_other xs i k y ne = ap (λ ms. at ms k) (map-set f xs i y) ∙ get_or-set_other (map f xs) i k (f y) blank_cell ne
 
+  -- cell j of the cells from the place s to the place e
+  pub cell_between : (xs : List X) (s e j : ℕ) → s + j < e → at (map f (between s e xs)) j ≡ at (map f xs) (s + j)
+  cell_between xs s e j h =
+      ap (λ ms. at ms j) (sym (ap (take (e - s)) (drop-map f s xs) ∙ take-map f (e - s) (drop s xs)))
+      ∙ get_or-between (map f xs) s e j blank_cell h
+
 -- the cells of word a are among those of n words
 pub row_within : (a n w : ℕ) → a < n → a * w + w ≤ n * w
 row_within a n w h = let k : a + 1 ≤ n = omega arith in omega (arith, mul-le-mul_right w k, add-mul a 1 w)
@@ -32,54 +42,59 @@ room i g h =
     let p : 2 ^ suc i ≤ 2 ^ 64 = pow_mono {i = suc i} {j = 64} (omega arith) in
     omega (arith, shl_one i h, value_below i g, pow-suc 2 i, p)
 
-pub value_set : (i : ℕ) (g : ℕ → Bool) → i < 64 → g i ≡ true → value i g + (1 * 2 ^ i) % 18446744073709551616 ≡ value (i + 1) g
-value_set i g h e =
-    ap (λ (n : ℕ). value i g + n) (shl_one i h ∙ sym (cond-true (g i) (2 ^ i) 0 e)) ∙ ap (λ n. value n g) (sym (add-one i))
-
-pub value_left : (i : ℕ) (g : ℕ → Bool) → g i ≡ false → value i g ≡ value (i + 1) g
-value_left i g e =
-    let z : value i g ≡ value i g + 0 = omega arith in
-    z ∙ ap (λ (n : ℕ). value i g + n) (sym (cond-false (g i) (2 ^ i) 0 e)) ∙ ap (λ n. value n g) (sym (add-one i))
-
-pub wrote_inside : (s w p m i : ℕ) (ms : List CellMeaning) → s ≤ i → i < s + w → wrote_at s w p m ms i ≡ wrote_cell p m (i - s) (at ms i)
-wrote_inside s w p m i ms lo hi = cond-true (leb s i && ltb i (s + w)) _ _ (and_from _ _ (le-leb s i lo) (lt-ltb i (s + w) hi))
-
-pub wrote_before : (s w p m i : ℕ) (ms : List CellMeaning) → i < s → wrote_at s w p m ms i ≡ at ms i
-wrote_before s w p m i ms lo = cond-false (leb s i && ltb i (s + w)) _ _ (and_left (leb s i) _ (lt-leb s i lo))
-
-pub wrote_after : (s w p m i : ℕ) (ms : List CellMeaning) → s + w ≤ i → wrote_at s w p m ms i ≡ at ms i
-wrote_after s w p m i ms hi = cond-false (leb s i && ltb i (s + w)) _ _ (and_right (leb s i) _ (le-ltb i (s + w) hi))
-
-pub wrote_none : (s p m : ℕ) (ms : List CellMeaning) (i : ℕ) → at ms i ≡ wrote_at s 0 p m ms i
-wrote_none s p m ms i =
-    split (ltb i s)
-    (λ e. sym (wrote_before s 0 p m i ms (ltb-true i s e)))
-    (λ e. sym (wrote_after s 0 p m i ms (omega (arith, ltb-false i s e))))
-
--- after j columns of a write, one more
-pub wrote_more : (s j p m : ℕ) (ms ns ks : List CellMeaning)
-    → ((i : ℕ) → at ns i ≡ wrote_at s j p m ms i)
-    → at ks (s + j) ≡ wrote_cell p m j (at ns (s + j)) → ((i : ℕ) → (i ≡ s + j → ⊥) → at ks i ≡ at ns i)
-    → (i : ℕ) → at ks i ≡ wrote_at s (j + 1) p m ms i
-wrote_more s j p m ms ns ks before here elsewhere i =
-    split (eqb i (s + j))
+-- after i columns of a write, one more
+pub wrote_more : (i p m : ℕ) (ms ns ks : List CellMeaning)
+    → ((j : ℕ) → at ns j ≡ cond (ltb j i) (wrote_cell p m j (at ms j)) (at ms j))
+    → at ks i ≡ wrote_cell p m i (at ns i) → ((j : ℕ) → (j ≡ i → ⊥) → at ks j ≡ at ns j)
+    → (j : ℕ) → at ks j ≡ cond (ltb j (i + 1)) (wrote_cell p m j (at ms j)) (at ms j)
+wrote_more i p m ms ns ks before here elsewhere j =
+    split (eqb j i)
     (λ e.
-    let q : i ≡ s + j = eqb-true i (s + j) e in
-    let d : s + j - s ≡ j = omega arith in
-    let old : at ns (s + j) ≡ at ms (s + j) = before (s + j) ∙ wrote_after s j p m (s + j) ms (omega arith) in
-    ap (at ks) q ∙ here ∙ ap (wrote_cell p m j) old
-    ∙ ap (λ (c : ℕ). wrote_cell p m c (at ms (s + j))) (sym d)
-    ∙ sym (wrote_inside s (j + 1) p m (s + j) ms (omega arith) (omega arith))
-    ∙ ap (wrote_at s (j + 1) p m ms) (sym q))
+    let q : j ≡ i = eqb-true j i e in
+    ap (at ks) q ∙ here ∙ ap (wrote_cell p m i) (before i ∙ cond-false (ltb i i) _ _ (le-ltb i i (omega arith)))
+    ∙ sym (cond-true (ltb i (i + 1)) _ _ (lt-ltb i (i + 1) (omega arith)))
+    ∙ ap (λ (k : ℕ). cond (ltb k (i + 1)) (wrote_cell p m k (at ms k)) (at ms k)) (sym q))
     (λ e.
-    let ne : i ≡ s + j → ⊥ = eqb-false i (s + j) e in
-    elsewhere i ne ∙ before i ∙ ap (λ t. cond (leb s i && t) (wrote_cell p m (i - s) (at ms i)) (at ms i)) (same_side i (s + j) (s + (j + 1)) ne (omega arith)))
+    let ne : j ≡ i → ⊥ = eqb-false j i e in
+    elsewhere j ne ∙ before j ∙ ap (λ t. cond t (wrote_cell p m j (at ms j)) (at ms j)) (same_side ne))
   where
-    same_side : (i a b : ℕ) → (i ≡ a → ⊥) → b ≡ a + 1 → ltb i a ≡ ltb i b
-    same_side i a b ne e =
-        split (ltb i a)
-        (λ t. t ∙ sym (lt-ltb i b (omega (arith, ltb-true i a t))))
-        (λ t. t ∙ sym (le-ltb i b (omega (arith, ltb-false i a t))))
+    same_side : (j ≡ i → ⊥) → ltb j i ≡ ltb j (i + 1)
+    same_side ne =
+        split (ltb j i)
+        (λ t. t ∙ sym (lt-ltb j (i + 1) (omega (arith, ltb-true j i t))))
+        (λ t. t ∙ sym (le-ltb j (i + 1) (omega (arith, ltb-false j i t))))
 
-pub some_mismatch : (n : ℕ) (g : ℕ → Bool) (k : ℕ) → k < n → g k ≡ false → all_below n g ≡ false
-some_mismatch n g k h e = split (all_below n g) (λ t. absurd (both_ways (g k) e (each_below n g t k h))) (λ t. t)
+module _ {X : Type 0} (f : X → CellMeaning) (xs ys : List X) (s e : ℕ) (long : length ys ≡ e - s) (order : s ≤ e) (fits : e ≤ length xs) where
+  -- the cells after those from the place s to the place e became ys
+  parted : map f (put_mid s (e - s) xs ys) ≡ take s (map f xs) ++ (map f ys ++ drop (e - s) (drop s (map f xs)))
+  parted =
+      map-append f (take s xs) (ys ++ drop (e - s) (drop s xs))
+      ∙ ap₂ ◌++◌ (sym (take-map f s xs))
+      (map-append f ys (drop (e - s) (drop s xs)) ∙ ap (λ zs. map f ys ++ zs) (sym (ap (drop (e - s)) (drop-map f s xs) ∙ drop-map f (e - s) (drop s xs))))
+
+  sizes : (length (take s (map f xs)) ≡ s) × (length (map f ys) ≡ e - s)
+  sizes = (omega (arith, length-take s (map f xs), length-map xs f), omega (arith, length-map ys f))
+
+  pub put_before : (i : ℕ) → i < s → at (map f (put_mid s (e - s) xs ys)) i ≡ at (map f xs) i
+  put_before i h = ap (λ ms. at ms i) parted ∙ get_or-append (take s (map f xs)) _ blank_cell i (omega (arith, sizes.0)) ∙ get_or-take s (map f xs) i blank_cell h
+
+  pub put_inside : (j : ℕ) → j < e - s → at (map f (put_mid s (e - s) xs ys)) (s + j) ≡ at (map f ys) j
+  put_inside j h =
+      ap (λ ms. at ms (s + j)) parted
+      ∙ ap (λ (i : ℕ). at (take s (map f xs) ++ (map f ys ++ drop (e - s) (drop s (map f xs)))) (i + j)) (sym sizes.0)
+      ∙ get_or-append-add (take s (map f xs)) _ j blank_cell
+      ∙ get_or-append (map f ys) _ blank_cell j (omega (arith, sizes.1))
+
+  pub put_after : (i : ℕ) → e ≤ i → at (map f (put_mid s (e - s) xs ys)) i ≡ at (map f xs) i
+  put_after i h =
+      let k : ℕ = i - e in
+      let q : i ≡ s + (e - s + k) = omega arith in
+      let r : s + (e - s) + k ≡ i = omega arith in
+      ap (λ ms. at ms i) parted
+      ∙ ap (at (take s (map f xs) ++ (map f ys ++ drop (e - s) (drop s (map f xs))))) q
+      ∙ ap (λ (i : ℕ). at (take s (map f xs) ++ (map f ys ++ drop (e - s) (drop s (map f xs)))) (i + (e - s + k))) (sym sizes.0)
+      ∙ get_or-append-add (take s (map f xs)) _ (e - s + k) blank_cell
+      ∙ ap (λ (i : ℕ). at (map f ys ++ drop (e - s) (drop s (map f xs))) (i + k)) (sym sizes.1)
+      ∙ get_or-append-add (map f ys) _ k blank_cell
+      ∙ ap (λ zs. at zs k) (drop-drop (e - s) s (map f xs))
+      ∙ get_or-drop (s + (e - s)) (map f xs) k blank_cell ∙ ap (at (map f xs)) r

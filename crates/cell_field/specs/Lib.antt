@@ -1,2 +1,4 @@
+pub mod Mark
+pub mod Row
 pub mod Field
 pub mod Formed

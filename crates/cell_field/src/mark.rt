@@ -1,10 +1,10 @@
 // The mark of a word.
-ghost use Rattle.std.specs.Prelude.{◌≡◌, Bool, true, false};
+ghost use Rattle.std.specs.Prelude.{◌≡◌, false};
 ghost use Rattle.cam.specs.Model.{mark_after_write};
-ghost use Rattle.cell_field.specs.Field.{is_set, is_stuck};
+ghost use Rattle.cell_field.specs.Mark.{is_set, is_stuck};
 
 // A mark is clear or set, or stuck, and then never set.
-#[derive(Clone, Copy)]
+#[derive(Clone, Copy, PartialEq, Eq)]
 pub enum Mark {
     Clear,
     Set,
@@ -12,24 +12,6 @@ pub enum Mark {
 }
 
 impl Mark {
-    pub(crate) fn is_set(self) -> bool
-        ensures set { result ≡ is_set self }
-    {
-        match self {
-            Mark::Set => true,
-            _ => false,
-        }
-    }
-
-    pub(crate) fn is_stuck(self) -> bool
-        ensures stuck { result ≡ is_stuck self }
-    {
-        match self {
-            Mark::Stuck => true,
-            _ => false,
-        }
-    }
-
     // The mark after a write: set, unless it is stuck.
     pub(crate) fn written(self) -> Mark
         ensures set_unless_stuck { is_set result ≡ mark_after_write (is_stuck self) (is_set self) }

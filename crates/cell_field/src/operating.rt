@@ -1,28 +1,60 @@
 // The cell field as an array under test.
-ghost use Rattle.std.specs.Prelude.{map};
+ghost use Rattle.std.specs.Prelude.{◌≡◌, ◌≤◌, length};
+ghost use Rattle.cam.specs.Model.{read_word, hit};
 ghost use Rattle.cell_field.specs.Field.{field_build, field_state};
 ghost use Rattle.cell_field.specs.Formed.{field_formed};
 
-use crate::field::{CellField, used_bits, used_words};
-use crate::rows::{any_lent_row_matches, read_lent_row, write_row};
+use crate::field::CellField;
+use crate::mark::Mark;
+use crate::rows::{read_row, row_matches, write_row};
 use cam::array::CamArray;
 use cam::index::WordIndex;
 use cam::tally::{TALLY_CAP, one_more};
 use cells::kind::CellKind;
 
+impl<C: CellKind> CellField<'_, C> {
+    // The held bits of a word; 0 past the last word.
+    fn bits_of(&self, word: WordIndex) -> u64
+        ensures held_bits { result ≡ read_word (field_build C.meaning self.now) word.number (field_state C.meaning self.now) }
+    {
+        let width = self.size.width as usize;
+        if word.number < self.size.words {
+            let start = word.number as usize * width;
+            read_row(&self.cells[start..start + width])
+        } else {
+            0
+        }
+    }
+
+    // Whether some marked word matches.
+    fn hits(&self, pattern: u64, mask: u64) -> bool
+        ensures some_word_matches { result ≡ hit (field_build C.meaning self.now) pattern mask (field_state C.meaning self.now) }
+    {
+        let words = self.size.words as usize;
+        self.cells
+            .chunks_exact(self.size.width as usize)
+            .zip(&self.marks[..words])
+            .any(
+                |(row, mark)| -> bool
+                    requires { length row.now ≤ 64 }
+                { *mark == Mark::Set && row_matches(row, pattern, mask) },
+            )
+    }
+}
+
 impl<C: CellKind> CamArray for CellField<'_, C> {
-    ghost build = { λ f. field_build (map C.meaning f.cells.now) f.words f.width f.marks };
+    ghost build = { field_build C.meaning };
 
-    ghost state = { λ f. field_state (map C.meaning f.cells.now) f.words f.width f.marks f.tally };
+    ghost state = { field_state C.meaning };
 
-    ghost formed = { λ f. field_formed C.meaning C.steady f.cells.now f.words f.width f.marks f.tally };
+    ghost formed = { field_formed C.meaning C.steady };
 
     fn words(&self) -> u16 {
-        used_words(self.words, self.width, self.cells.len())
+        self.size.words
     }
 
     fn width(&self) -> u8 {
-        used_bits(self.words, self.width, self.cells.len())
+        self.size.width
     }
 
     fn tally(&self) -> u64 {
@@ -30,39 +62,33 @@ impl<C: CellKind> CamArray for CellField<'_, C> {
     }
 
     fn write(&mut self, word: WordIndex, pattern: u64, mask: u64) {
-        let width = self.width;
-        if word.number < used_words(self.words, width, self.cells.len()) {
-            let place = word.number as usize;
-            write_row(self.cells, place * width as usize, width, pattern, mask);
-            self.marks[place] = self.marks[place].written();
-        }
         self.tally = one_more(self.tally);
+        if word.number >= self.size.words {
+            return;
+        }
+        let place = word.number as usize;
+        let width = self.size.width as usize;
+        let start = place * width;
+        write_row(&mut self.cells[start..start + width], pattern, mask);
+        self.marks[place] = self.marks[place].written();
     }
 
     fn read(&mut self, word: WordIndex) -> u64 {
         self.tally = one_more(self.tally);
-        let width = self.width;
-        if word.number < used_words(self.words, width, self.cells.len()) {
-            read_lent_row(self.cells, word.number as usize * width as usize, width)
-        } else {
-            0
-        }
+        self.bits_of(word)
     }
 
     fn compare(&mut self, pattern: u64, mask: u64) -> bool {
         self.tally = one_more(self.tally);
-        let width = self.width;
-        let words = used_words(self.words, width, self.cells.len());
-        let marks = self.marks;
-        any_lent_row_matches(self.cells, &marks, words, width, pattern, mask)
+        self.hits(pattern, mask)
     }
 
     fn erase(&mut self, word: WordIndex) {
-        let width = self.width;
-        if word.number < used_words(self.words, width, self.cells.len()) {
-            let place = word.number as usize;
-            self.marks[place] = self.marks[place].erased();
-        }
         self.tally = one_more(self.tally);
+        if word.number >= self.size.words {
+            return;
+        }
+        let place = word.number as usize;
+        self.marks[place] = self.marks[place].erased();
     }
 }

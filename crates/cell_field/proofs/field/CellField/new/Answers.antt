@@ -1,14 +1,9 @@
-use Rattle.std.proofs.Common.{refl, rules}
+use Rattle.std.proofs.Common.{map}
 use Rattle.cell_field.proofs.Meanings.{made_build, made_state}
 use Rattle.cell_field.proofs.field.CellField.new.Goals as goal
 
-pub returns : goal.returns
-returns g c =
-    let f = g.C.CellKind.meaning in
-    let xs = c.args.cells.now in
-    record {
-      asks_size_then_cells = search rules;
-      cells_as_lent = refl;
-      made_of_the_cells = made_build f c.args.words c.args.width xs (search rules);
-      marks_clear = made_state f c.args.words c.args.width xs (search rules);
-    }
+pub returns-clause-made_of_the_cells : goal.returns-clause-made_of_the_cells
+returns-clause-made_of_the_cells g c = made_build c.args.size.words c.args.size.width (map g.C.CellKind.meaning c.args.cells.now)
+
+pub returns-clause-marks_clear : goal.returns-clause-marks_clear
+returns-clause-marks_clear g c = made_state c.args.size.words c.args.size.width (map g.C.CellKind.meaning c.args.cells.now)
