@@ -1,36 +1,25 @@
 -- An operation is read in one way, and ends ahead. Assumes nothing.
-use Rattle.std.proofs.Common.{◌≡◌, ℕ, cond, eqb, List, get_or, IfOk, Ok, codes, Result, sym, refl, ap, ◌∙◌, subst, arith}
+use Rattle.std.specs.Option.{ok_or}
+use Rattle.std.proofs.Common.{◌≡◌, ℕ, List, Option, Some, None, MatchOption, Ok, Err, codes, Result, sym, refl, ap, ◌∙◌, subst, arith}
 use Rattle.cam.specs.declared.fault.Fault.{Fault}
 use Rattle.march.specs.declared.element.TestOperation.{TestOperation}
 use Rattle.march.specs.declared.operations.Order.{Order}
 use Rattle.words.specs.declared.token.Kind.TheVariants.{Close}
-use Rattle.words.specs.declared.token.Token.{Token}
-use Rattle.words.specs.Lexing.{Lexed}
-use Rattle.words.specs.Forms.{Next, BitNext, EitherNext, Ahead}
-use Rattle.words.proofs.Rules.{One, then_one, then_made}
+use Rattle.words.specs.Lexing.{Token, Lexed, bytes_of}
+use Rattle.words.specs.Readings.{on, off, Gathered}
+use Rattle.words.specs.Forms.{not_wanted, Next, BitNext, EitherNext, NameNext, named, nameless}
+use Rattle.words.proofs.Rules.{One, then_one}
 use Rattle.words.proofs.Lexemes.{lexed_one}
-use Rattle.words.proofs.Parts.{next_one, either_next_one, token_ahead, next_ahead, either_next_ahead, onward}
+use Rattle.words.proofs.Parts.{next_one, either_next_one}
 use Rattle.sheet_operations.specs.declared.letter.Letter.{Letter}
 use Rattle.sheet_operations.specs.declared.letter.Letter.TheVariants.{Write, Read, Compare, Erase}
-use Rattle.sheet_operations.specs.declared.letter.Head.{Head}
-use Rattle.sheet_operations.specs.declared.operation.Parsed.{Parsed}
-use Rattle.sheet_operations.specs.Letters.{spelling, WantsLetter, known, unknown, LetterNext}
+use Rattle.sheet_operations.specs.Letters.{spelling, letters_differ, head_to, WantsLetter, known, unknown, LetterNext}
 use Rattle.sheet_operations.specs.Questions.{Room, room, full, Allowed, allowed, compares_only, OperationRoom}
 use Rattle.sheet_operations.specs.Operations.{Closing, Rest, OperationAt}
 
--- the letter of a spelling
-abbrev letter_of : ℕ → Letter
-letter_of b = cond (eqb b 119) Write (cond (eqb b 114) Read (cond (eqb b 99) Compare Erase))
-
-spelling_back : (l : Letter) → letter_of (get_or (spelling l) 0 0) ≡ l
-spelling_back Write = refl
-spelling_back Read = refl
-spelling_back Compare = refl
-spelling_back Erase = refl
-
 letter_one : (text : List ℕ) (t : Token) → One (WantsLetter text t)
 letter_one text t _ _ (known l p) (known m q) =
-    ap (λ k. Ok (record { letter = k; from = t.from; to = t.to })) (sym (spelling_back l) ∙ ap (λ w. letter_of (get_or w 0 0)) (sym p.is ∙ q.is) ∙ spelling_back m)
+    ap (λ k. Ok (record { letter = k; from = t.from; to = t.to })) (letters_differ l m (sym p.is ∙ q.is))
 letter_one text t _ _ (known l p) (unknown q) = absurd (q l p)
 letter_one text t _ _ (unknown p) (known m q) = absurd (p m q)
 letter_one text t _ _ (unknown p) (unknown q) = refl
@@ -44,11 +33,11 @@ room_one count most f _ _ (room p) (full q) = absurd (omega arith)
 room_one count most f _ _ (full p) (room q) = absurd (omega arith)
 room_one count most f _ _ (full p) (full q) = refl
 
-pub allowed_one : (o : Order) (h : Head) → One (Allowed o h)
-allowed_one o h _ _ (allowed p) (allowed q) = refl
-allowed_one o h _ _ (allowed p) (compares_only e n) = absurd (n (p e))
-allowed_one o h _ _ (compares_only e n) (allowed q) = absurd (n (q e))
-allowed_one o h _ _ (compares_only e n) (compares_only e' n') = refl
+pub allowed_one : (o : Order) (l : Letter) (p : ℕ) → One (Allowed o l p)
+allowed_one o l p _ _ (allowed x) (allowed y) = refl
+allowed_one o l p _ _ (allowed x) (compares_only e n) = absurd (n (x e))
+allowed_one o l p _ _ (compares_only e n) (allowed x) = absurd (n (x e))
+allowed_one o l p _ _ (compares_only e n) (compares_only e' n') = refl
 
 -- a rule that names its one result
 pub says_one : {X : Type 0} (y : Result X Fault) → One (λ r. r ≡ y)
@@ -66,42 +55,31 @@ rest_one text Compare a =
     closing_one _ text h.to))
 rest_one text Erase a = closing_one _ text a
 
-pub operation_one : (o : Order) (count : ℕ) (text : List ℕ) (t : Token) → One (OperationAt o count text t)
-operation_one o count text t =
-    then_one (OperationRoom count t.from) _ (room_one _ _ _) (λ _.
-    then_one (LetterNext text t.to) _ (letter_next_one text t.to) (λ h.
-    then_one (Allowed o h) _ (allowed_one o h) (λ _.
+pub operation_one : (o : Order) (count : ℕ) (text : List ℕ) (p a : ℕ) → One (OperationAt o count text p a)
+operation_one o count text p a =
+    then_one (OperationRoom count p) _ (room_one _ _ _) (λ _.
+    then_one (LetterNext text a) _ (letter_next_one text a) (λ h.
+    then_one (Allowed o h.letter h.from) _ (allowed_one o h.letter h.from) (λ _.
     rest_one text h.letter h.to)))
 
-abbrev ParsedAhead : List ℕ → ℕ → Parsed → Type 0
-ParsedAhead text a p = Ahead text a p.to
-
-letter_ahead : (text : List ℕ) (a : ℕ) (t : Token) (r : Result Head Fault) → Lexed text a (Ok t) → WantsLetter text t r → IfOk r (λ h. Ahead text a h.to)
-letter_ahead text a t _ x (known l s) = token_ahead x
-letter_ahead text a t _ x (unknown n) = tt
-
-pub letter_next_ahead : (text : List ℕ) (a : ℕ) (r : Result Head Fault) → LetterNext text a r → IfOk r (λ h. Ahead text a h.to)
-letter_next_ahead text a r = then_made (λ h. Ahead text a h.to) (letter_ahead text a)
-
-pub closing_ahead : (o : TestOperation) (text : List ℕ) (a : ℕ) (r : Result Parsed Fault) → Closing o text a r → IfOk r (ParsedAhead text a)
-closing_ahead o text a r = then_made (ParsedAhead text a) (λ e s p q. subst (λ s. IfOk s (ParsedAhead text a)) (sym q) (next_ahead Close text a (Ok e) p))
-
-pub rest_ahead : (text : List ℕ) (l : Letter) (a : ℕ) (r : Result Parsed Fault) → Rest text l a r → IfOk r (ParsedAhead text a)
-rest_ahead text Write a r = then_made (ParsedAhead text a) (λ b s p q. onward (λ p. p.to) text a b.to s (either_next_ahead _ _ text a (Ok b) p).after (closing_ahead _ text b.to s q))
-rest_ahead text Read a r = then_made (ParsedAhead text a) (λ b s p q. onward (λ p. p.to) text a b.to s (either_next_ahead _ _ text a (Ok b) p).after (closing_ahead _ text b.to s q))
-rest_ahead text Compare a r =
-    then_made (ParsedAhead text a) (λ b s p q.
-    onward (λ p. p.to) text a b.to s (either_next_ahead _ _ text a (Ok b) p).after
-    (then_made (ParsedAhead text b.to) (λ h s p q. onward (λ p. p.to) text b.to h.to s (either_next_ahead _ _ text b.to (Ok h) p).after (closing_ahead _ text h.to s q)) q))
-rest_ahead text Erase a r = closing_ahead _ text a r
-
-pub operation_ahead : (o : Order) (count : ℕ) (text : List ℕ) (t : Token) (r : Result Parsed Fault) → OperationAt o count text t r → IfOk r (ParsedAhead text t.to)
-operation_ahead o count text t r =
-    then_made (ParsedAhead text t.to) (λ _ s _ q.
-    then_made (ParsedAhead text t.to) (λ h s p q.
-    onward (λ p. p.to) text t.to h.to s (letter_next_ahead text t.to (Ok h) p).after
-    (then_made (ParsedAhead text h.to) (λ _ s _ q. rest_ahead text h.letter h.to s q) q)) q)
-
 -- what is read after a letter that is known
-pub after_letter : (text : List ℕ) (l m : Letter) (a : ℕ) (r : Result Parsed Fault) → l ≡ m → Rest text m a r → Rest text l a r
+pub after_letter : (text : List ℕ) (l m : Letter) (a : ℕ) (r : Result (Gathered TestOperation) Fault) → l ≡ m → Rest text m a r → Rest text l a r
 after_letter text l m a r e x = subst (λ k. Rest text k a r) (sym e) x
+
+abbrev pub paired : ℕ → Result Letter Fault → Result (Letter × ℕ) Fault
+paired p (Ok l) = Ok (l, p)
+paired p (Err f) = Err f
+
+-- a word and the letter that it is, or none
+pub chosen : {text w : List ℕ} {a : ℕ} {u : Token} (o : Option Letter) (r : Result Letter Fault) → w ≡ bytes_of text u → MatchOption o ((l : Letter) → w ≡ spelling l → ⊥) (λ l. w ≡ spelling l) → NameNext text a (Ok u) → r ≡ ok_or o (not_wanted u.from) → LetterNext text a (head_to u.to (paired u.from r))
+chosen (Some l) r s m (on x (named k)) e = rw e (on x (known l (record { kind = k; is = sym s ∙ m })))
+chosen None r s m (on x (named k)) e = rw e (on x (unknown (λ l h. m l (s ∙ h.is))))
+
+pub no_word : {text : List ℕ} {a : ℕ} {f : Fault} → NameNext text a (Err f) → LetterNext text a (Err f)
+no_word (off x) = off x
+no_word (on x (nameless n)) = on x (unknown (λ l h. n h.kind))
+
+-- what was read of an operation, whose closing bracket comes next: the text as the cursor still has it, and the place
+pub record Unclosed (text : List ℕ) (l : Letter) (a : ℕ) (o : TestOperation) (same : List ℕ) (e : ℕ) : Type 0 where
+  pub text_stays : same ≡ text
+  pub closes : (r : Result (Gathered TestOperation) Fault) → Closing o text e r → Rest text l a r

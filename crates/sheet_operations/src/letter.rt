@@ -1,14 +1,13 @@
 // The letter that an operation begins with: w, r, c or e.
-ghost use Rattle.std.specs.Prelude.{◌≤◌, length, IfOk};
-ghost use Rattle.words.specs.Forms.{Ahead};
+ghost use Rattle.std.specs.Prelude.{◌≡◌, ◌≤◌};
 ghost use Rattle.words.specs.Readings.{Reading};
-ghost use Rattle.sheet_operations.specs.Letters.{LetterNext};
+ghost use Rattle.sheet_operations.specs.Letters.{spelling, LetterNext, head_to};
 
 use cam::fault::Fault;
-use words::form::{not_wanted, spells};
-use words::token::next_token;
+use words::cursor::Cursor;
+use words::form::{Spelled, not_wanted};
 
-#[derive(Clone, Copy)]
+#[derive(Clone, Copy, PartialEq, Eq)]
 pub enum Letter {
     Write,
     Read,
@@ -16,35 +15,31 @@ pub enum Letter {
     Erase,
 }
 
-// A letter with its bytes in the text: from `from` up to `to`.
-#[derive(Clone, Copy)]
-pub struct Head {
-    pub letter: Letter,
-    pub from: usize,
-    pub to: usize,
+impl Spelled for Letter {
+    ghost use Rattle.sheet_operations.specs.Letters.{letters_differ};
+
+    ghost spelling = { spelling };
+
+    ghost differ = { letters_differ };
+
+    fn spelled(word: &[u8]) -> Option<Letter> {
+        match word {
+            b"w" => Some(Letter::Write),
+            b"r" => Some(Letter::Read),
+            b"c" => Some(Letter::Compare),
+            b"e" => Some(Letter::Erase),
+            _ => None,
+        }
+    }
 }
 
-// Reads the letter of an operation.
-pub fn read_letter(text: &[u8], at: usize) -> Result<Head, Fault>
-    requires starts_inside { at ≤ length text.now }
-    ensures reading { Reading (LetterNext text.now at) result }
-    ensures ahead { IfOk result (λ h. Ahead text.now at h.to) }
+// Reads the letter of an operation. Answers its place too, where the meaning refuses it.
+pub fn read_letter(cursor: &mut Cursor) -> Result<(Letter, usize), Fault>
+    ensures reading { Reading (LetterNext cursor.old.text.now cursor.old.at) (head_to cursor.new.at result) }
+    ensures text_stays { cursor.new.text.now ≡ cursor.old.text.now }
+    ensures goes_on { cursor.old.at ≤ cursor.new.at }
 {
-    let token = next_token(text, at)?;
-    let letter = if spells(text, token, b"w") {
-        Letter::Write
-    } else if spells(text, token, b"r") {
-        Letter::Read
-    } else if spells(text, token, b"c") {
-        Letter::Compare
-    } else if spells(text, token, b"e") {
-        Letter::Erase
-    } else {
-        return Err(not_wanted(token.from));
-    };
-    Ok(Head {
-        letter,
-        from: token.from,
-        to: token.to,
-    })
+    let word = cursor.any_word()?;
+    let letter = Letter::spelled(word.bytes).ok_or(not_wanted(word.from))?;
+    Ok((letter, word.from))
 }

@@ -2,37 +2,27 @@
 ghost use Rattle.words.specs.Readings.{Reading};
 ghost use Rattle.sheet_operations.specs.Questions.{Room, Allowed, meaning_fault};
 
-use crate::letter::{Head, Letter};
-use cam::fault::{Fault, Layer, Reason};
+use crate::letter::Letter;
+use cam::fault::{Fault, Reason};
 use march::operations::Order;
+use words::meaning::meaning_fault;
 
 // Asks whether there is room for one more, where there are `count` and may be `most`.
 pub fn check_room(count: u8, most: u8, reason: Reason, place: usize) -> Result<(), Fault>
     ensures reading { Reading (Room count most (meaning_fault reason place)) result }
 {
     if count >= most {
-        return Err(Fault {
-            reason,
-            layer: Layer::Meaning,
-            place,
-        });
+        return Err(meaning_fault(reason, place));
     }
     Ok(())
 }
 
-// Asks whether an element may have an operation of this letter: in columns, only compares.
-pub fn check_allowed(order: Order, head: Head) -> Result<(), Fault>
-    ensures reading { Reading (Allowed order head) result }
+// Asks whether an element may have an operation of this letter, which stands at this place: in columns, only compares.
+pub fn check_allowed(order: Order, letter: Letter, place: usize) -> Result<(), Fault>
+    ensures reading { Reading (Allowed order letter place) result }
 {
-    match order {
-        Order::Columns => match head.letter {
-            Letter::Compare => Ok(()),
-            _ => Err(Fault {
-                reason: Reason::OnlyComparesInColumns,
-                layer: Layer::Meaning,
-                place: head.from,
-            }),
-        },
-        _ => Ok(()),
+    if order == Order::Columns && letter != Letter::Compare {
+        return Err(meaning_fault(Reason::OnlyComparesInColumns, place));
     }
+    Ok(())
 }
