@@ -1,48 +1,38 @@
--- Texts joined from the pieces of a list, piece by piece.
-use Rattle.std.proofs.Common.{◌≡◌, ℕ, zero, suc, ◌+◌, ◌<◌, ◌≤◌, Bool, true, List, [], ◌∷◌, ◌++◌, map, length, get_or, take, drop, Some, None, sym, refl, ap, ◌∙◌, append_assoc, arith, length-append, take-append-drop}
-use Rattle.std.specs.List.{flat_map, slice_get}
-use Rattle.std.proofs.lemmas.List.{take_more, flat_map_more, get_or-map}
-use Rattle.std.proofs.lemmas.Option.{slice_get-get_or}
+-- An item of a list, between those before it and those after it.
+use Rattle.std.proofs.Common.{◌≡◌, ℕ, ◌+◌, ◌<◌, ◌≤◌, Bool, true, ◌&&◌, List, [], ◌∷◌, ◌++◌, map, length, get_or, take, drop, sym, ap, ◌∙◌, append_assoc, arith, length-append, take-append-drop}
+use Rattle.std.specs.List.{flat_map}
 use Rattle.std.proofs.lemmas.Bool.{and_parts}
+use Rattle.std.proofs.lemmas.Grind.{flat_map-append}
+use Rattle.std.proofs.lemmas.List.{map_more, map-append}
+use Rattle.std.proofs.lemmas.List.Folds.{list_all-append}
 use Rattle.march.specs.Every.{every}
 
--- what a look-up found
-pub found : {X : Type 0} (xs : List X) (i : ℕ) (x : X) → i < length xs → Some x ≡ slice_get xs i → get_or xs i x ≡ x
-found xs i x l e = let at = slice_get-get_or xs i x l in cc
+module _ {X : Type 0} (before after : List X) (x : X) (xs : List X) (whole : before ++ (x ∷ after) ≡ xs) where
+  pub has_place : length before < length xs
+  has_place = omega (arith, ap length whole, length-append before (x ∷ after))
 
--- a look-up inside finds something
-pub not_past : {X : Type 0} (xs : List X) (i : ℕ) (d : X) → i < length xs → None ≡ slice_get xs i → ⊥
-not_past xs i d l e =
-    let at = slice_get-get_or xs i d l in
-    let z : ◌≡◌ {A = ℕ} 0 1 = cc in
-    omega arith
+  pub passes : (p : X → Bool) → every p xs ≡ true → p x ≡ true
+  passes p all =
+      let rest = and_parts (every p before) (p x && every p after) (sym (list_all-append p before (x ∷ after)) ∙ ap (every p) whole ∙ all) in
+      (and_parts (p x) (every p after) rest.1).0
 
-module _ {X : Type 0} (f : X → List ℕ) where
-  pub joined_append : (xs ys : List X) → flat_map f (xs ++ ys) ≡ flat_map f xs ++ flat_map f ys
-  joined_append [] ys = refl
-  joined_append (x ∷ xs) ys = ap (λ l. f x ++ l) (joined_append xs ys) ∙ sym (append_assoc (f x) (flat_map f xs) (flat_map f ys))
+  -- there is room for its piece where there is room for all
+  pub within : (f : X → List ℕ) → length (flat_map f before) + length (f x) ≤ length (flat_map f xs)
+  within f =
+      omega (
+        arith,
+        ap (λ ys. length (flat_map f ys)) whole,
+        ap length (flat_map-append f before (x ∷ after)),
+        length-append (flat_map f before) (f x ++ flat_map f after),
+        length-append (f x) (flat_map f after),
+      )
 
-  pub joined_step : (xs : List X) (i : ℕ) (x : X) → i < length xs → get_or xs i x ≡ x → flat_map f (take (i + 1) xs) ≡ flat_map f (take i xs) ++ f x
-  joined_step xs i x l e =
-      ap (flat_map f) (take_more xs i x l) ∙ sym (flat_map_more f [] (take i xs) (get_or xs i x)) ∙ ap (λ y. flat_map f (take i xs) ++ f y) e
-
-  pub length_step : (xs : List X) (i : ℕ) (x : X) → i < length xs → get_or xs i x ≡ x → length (flat_map f (take (i + 1) xs)) ≡ length (flat_map f (take i xs)) + length (f x)
-  length_step xs i x l e = ap length (joined_step xs i x l e) ∙ length-append (flat_map f (take i xs)) (f x)
-
-  -- there is room for each piece where there is room for all
-  pub joined_within : (xs : List X) (i : ℕ) (x : X) → i < length xs → get_or xs i x ≡ x → length (flat_map f (take i xs)) + length (f x) ≤ length (flat_map f xs)
-  joined_within xs i x l e =
-      let front = flat_map f (take (i + 1) xs) in
-      let whole : flat_map f xs ≡ front ++ flat_map f (drop (i + 1) xs) =
-      ap (flat_map f) (sym (take-append-drop (i + 1) xs)) ∙ joined_append (take (i + 1) xs) (drop (i + 1) xs) in
-      omega (arith, length_step xs i x l e, ap length whole, length-append front (flat_map f (drop (i + 1) xs)))
-
--- the item at a place of a mapped list, by the default that it is
-pub mapped_at : {X Y : Type 0} (g : X → Y) (xs : List X) (i : ℕ) (d : X) → i < length xs → get_or (map g xs) i (g (get_or xs i d)) ≡ g (get_or xs i d)
-mapped_at g xs i d l = get_or-map g xs i d (g (get_or xs i d)) l
-
--- a test that every item passes
-pub every_at : {X : Type 0} (p : X → Bool) (xs : List X) (i : ℕ) (d : X) → every p xs ≡ true → i < length xs → p (get_or xs i d) ≡ true
-every_at p [] i d e l = absurd (omega arith)
-every_at p (x ∷ xs) zero d e l = (and_parts (p x) (every p xs) e).0
-every_at p (x ∷ xs) (suc i) d e l = every_at p xs i d (and_parts (p x) (every p xs) e).1 (omega arith)
+-- a list between its first i items and those after the next one
+pub split_at : {X Y : Type 0} (g : X → Y) (xs : List X) (i : ℕ) (d : X) → i < length xs
+    → map g (take i xs) ++ (g (get_or xs i d) ∷ map g (drop (i + 1) xs)) ≡ map g xs
+split_at g xs i d l =
+    let rest = map g (drop (i + 1) xs) in
+    sym (append_assoc (map g (take i xs)) (g (get_or xs i d) ∷ []) rest)
+    ∙ ap (λ ys. ys ++ rest) (sym (map_more g xs i d l))
+    ∙ sym (map-append g (take (i + 1) xs) (drop (i + 1) xs))
+    ∙ ap (map g) (take-append-drop (i + 1) xs)

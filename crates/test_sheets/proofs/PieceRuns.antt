@@ -18,7 +18,7 @@ use Rattle.sheet_writer.specs.declared.states.InsideElement.{InsideElement}
 use Rattle.sheet_writer.specs.Sheets.{beginning, heading, operation_piece, ending, element_line, sheet}
 use Rattle.sheet_writer.specs.Writing.{fits}
 use Rattle.test_sheets.specs.Pieces.{Standing, between_elements, in_element, Written, begun, opens, writes, closes, PiecesReadBack}
-use Rattle.test_sheets.proofs.Joins.{joined_append}
+use Rattle.std.proofs.lemmas.Grind.{flat_map-append}
 use Rattle.test_sheets.proofs.Elements.{length_longer}
 use Rattle.test_sheets.proofs.Trips.{reads_back}
 
@@ -132,7 +132,7 @@ Stood name old es (between_elements s) b = Between name old es s b
 Stood name old es (in_element e s) b = Inside name old es e s b
 
 joined_push : (es : List Element) (e : Element) → flat_map element_line (es ++ (e ∷ [])) ≡ flat_map element_line es ++ element_line e
-joined_push es e = joined_append element_line es (e ∷ []) ∙ ap (λ l. flat_map element_line es ++ l) (append-nil (element_line e))
+joined_push es e = flat_map-append element_line es (e ∷ []) ∙ ap (λ l. flat_map element_line es ++ l) (append-nil (element_line e))
 
 closed_lines : (name : List ℕ) (es : List Element) (e : Element) → (lines name es ++ open_line e) ++ ending ≡ lines name (es ++ (e ∷ []))
 closed_lines name es e =
@@ -148,7 +148,7 @@ longer_line name es e o h =
     ∙ ap (λ l. lines name es ++ l)
     (append_assoc (heading (order_of e)) (flat_map operation_piece (operations_of e)) (operation_piece o)
     ∙ ap₂ (λ x y. heading x ++ y) (sym (order_longer e o))
-    (sym (ap (flat_map operation_piece) (operations_longer e o h) ∙ joined_append operation_piece (operations_of e) (o ∷ [])
+    (sym (ap (flat_map operation_piece) (operations_longer e o h) ∙ flat_map-append operation_piece (operations_of e) (o ∷ [])
     ∙ ap (λ l. flat_map operation_piece (operations_of e) ++ l) (append-nil (operation_piece o)))))
 
 opened_line : (name : List ℕ) (es : List Element) (o : Order) → lines name es ++ heading o ≡ lines name es ++ open_line (opened o)

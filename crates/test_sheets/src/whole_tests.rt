@@ -28,17 +28,8 @@ fn write_operations(state: InsideElement, element: &Element, buffer: &mut [u8]) 
     ensures state_after { result ≡ inside (state.at + length (flat_map operation_piece (operations_of (meant element.now)))) state.order state.elements (length (operations_of (meant element.now))) }
 {
     let mut state = state;
-    for at in 0..element.operation_count() {
-        let Some(operation) = element.operation(at) else {
-            unreachable()
-        };
-        state = match state.write(operation, buffer) {
-            Ok(next) => next,
-            Err(refused) => {
-                refused.state.abandon();
-                unreachable()
-            }
-        };
+    for operation in element.operations() {
+        state = state.write(operation, buffer).unwrap();
     }
     state
 }
@@ -51,21 +42,9 @@ fn write_element(state: BetweenElements, element: &Element, buffer: &mut [u8]) -
     ensures line_written { buffer.new ≡ over buffer.old state.at (element_line (meant element.now)) }
     ensures state_after { result ≡ between (state.at + length (element_line (meant element.now))) (state.elements + 1) }
 {
-    let opened = match state.open(element.order(), buffer) {
-        Ok(next) => next,
-        Err(refused) => {
-            refused.state.abandon();
-            unreachable()
-        }
-    };
+    let opened = state.open(element.order(), buffer).unwrap();
     let filled = write_operations(opened, element, buffer);
-    match filled.close(buffer) {
-        Ok(next) => next,
-        Err(refused) => {
-            refused.state.abandon();
-            unreachable()
-        }
-    }
+    filled.close(buffer).unwrap()
 }
 
 // Writes the lines of elements that each have an operation.
@@ -105,11 +84,5 @@ pub fn write_test(test: &Test, buffer: &mut [u8]) -> Result<usize, Fault>
     let name = test.name();
     let begun = BetweenElements::begin(name.as_bytes(), buffer)?;
     let filled = write_elements(begun, test.elements(), buffer);
-    match filled.end(buffer) {
-        Ok(length) => Ok(length),
-        Err(refused) => {
-            refused.state.abandon();
-            unreachable()
-        }
-    }
+    Ok(filled.end(buffer).unwrap())
 }

@@ -1,67 +1,50 @@
-use Rattle.std.proofs.Common.{◌≡◌, ℕ, ◌+◌, ◌<◌, ◌≤◌, length, take, refl, ap, ◌∙◌, arith}
+use Rattle.std.proofs.Common.{◌≡◌, ◌+◌, ◌≤◌, [], ◌∷◌, ◌++◌, length, sym, ap, ◌∙◌, append_assoc, arith}
+use Rattle.std.proofs.lemmas.List.{length_push}
 use Rattle.std.specs.List.{flat_map}
-use Rattle.cam.proofs.Asking.{refused_not_0}
-use Rattle.march.specs.declared.element.TestOperation.TheVariants.{Erase}
+use Rattle.march.specs.Going.{operations_left}
 use Rattle.march.specs.Tests.{meant}
-use Rattle.march.specs.Building.{operations_of}
+use Rattle.march.specs.Building.{opened, order_of, operations_of, allows}
 use Rattle.march.proofs.Table.{operations_few}
 use Rattle.sheet_writer.specs.Sheets.{operation_piece}
-use Rattle.test_sheets.proofs.Joins.{found, not_past, joined_within}
-use Rattle.test_sheets.proofs.Written.{pieces_none, pieces_more, pieces_all, operation_granted}
+use Rattle.sheet_writer.specs.Writing.{write_questions}
+use Rattle.test_sheets.proofs.Elements.{every_allowed}
+use Rattle.test_sheets.proofs.Joins.{has_place, passes, within}
+use Rattle.test_sheets.proofs.Written.{pieces_more, granted, operation_granted}
 use Rattle.test_sheets.proofs.whole_tests.write_operations.Goals as goal
 
-pub loop-at-init : goal.loop-at-init
-loop-at-init c =
-    let os = operations_of (meant c.args.element.now) in
-    (pieces_none operation_piece c.args.state.at os c.args.buffer.now, refl, refl, c.requires.just_opened)
-
-pub unreachable-requires : goal.unreachable-requires
-unreachable-requires c =
-    let os = operations_of (meant c.args.element.now) in
-    let l : c.loop-at.at < length os = omega (arith, c.operation_count-at-end.ensures.how_many_operations) in
-    not_past os c.loop-at.at Erase l c.in_default.ensures.operation_at_place
-
-pub unreachable-requires-in-Err : goal.unreachable-requires-in-Err
-unreachable-requires-in-Err c =
+pub unwrap-state-requires : goal.unwrap-state-requires
+unwrap-state-requires c =
     let e = meant c.args.element.now in
-    let os = operations_of e in
-    let i = c.loop-at.at in
+    let s = c.loop-operation.state in
+    let done = c.loop-operation.yielded in
     let o = c.in-Some.operation in
-    let inv = c.loop-at.invariant in
-    let l : i < length os = omega (arith, c.operation_count-at-end.ensures.how_many_operations) in
-    let is = found os i o l c.in-Some.ensures.operation_at_place in
-    let kept : length c.loop-at.buffer ≡ length c.args.buffer.now = c.loop-at.auto.buffer in
-    let room : c.loop-at.state.at + length (operation_piece o) ≤ length c.loop-at.buffer =
-    omega (arith, joined_within operation_piece os i o l is, inv.0.place, c.requires.room) in
-    refused_not_0 _ _ c.in-Err.ensures.asks_in_order
-    (operation_granted e i c.loop-at.buffer c.loop-at.state o (inv.1 ∙ c.requires.same_order) inv.3 (operations_few c.args.element.now) l is room)
+    let left = operations_left c.next.new.self in
+    let inv = c.loop-operation.invariant in
+    let whole : done ++ (o ∷ left) ≡ operations_of e = ap (λ xs. done ++ xs) (sym c.in-Some.ensures.steps) ∙ inv.others in
+    let few = has_place done left o _ whole in
+    let allowed = passes done left o _ whole (allows (opened (order_of e))) (every_allowed e) in
+    let room = within done left o _ whole operation_piece in
+    granted (write_questions s o c.loop-operation.buffer) c.write.result c.write.ensures.asks_in_order
+    (operation_granted c.loop-operation.buffer s o
+    (omega (arith, inv.counted, operations_few c.args.element.now))
+    (ap (λ r. allows (opened r) o) (inv.same_order ∙ c.requires.same_order) ∙ allowed)
+    (omega (arith, inv.pieces.place, c.loop-operation.auto.buffer, c.requires.room)))
 
-pub loop-at-preserved : goal.loop-at-preserved
-loop-at-preserved c =
-    let os = operations_of (meant c.args.element.now) in
-    let i = c.loop-at.at in
+pub loop-operation-preserved : goal.loop-operation-preserved
+loop-operation-preserved c =
+    let done = c.loop-operation.yielded in
     let o = c.in-Some.operation in
-    let inv = c.loop-at.invariant in
-    let l : i < length os = omega (arith, c.operation_count-at-end.ensures.how_many_operations) in
-    let is = found os i o l c.in-Some.ensures.operation_at_place in
-    let room : c.args.state.at + length (flat_map operation_piece (take i os)) + length (operation_piece o) ≤ length c.args.buffer.now =
-    omega (arith, joined_within operation_piece os i o l is, c.requires.room) in
-    let wrote = c.in-Ok.ensures.operation_written in (
-      pieces_more operation_piece c.args.state.at os c.args.buffer.now i c.loop-at.buffer c.write.new.buffer c.loop-at.state.at c.in-Ok.next.at o
-          inv.0 l is room (ap (λ s. s.at) wrote.0) wrote.1,
-      ap (λ s. s.order) wrote.0 ∙ inv.1,
-      ap (λ s. s.elements) wrote.0 ∙ inv.2,
-      ap (λ s. s.operations) wrote.0 ∙ ap (λ (n : ℕ). n + 1) inv.3,
-    )
-
-pub returns : goal.returns
-returns c =
-    let os = operations_of (meant c.args.element.now) in
-    let inv = c.loop-at.invariant in
-    let end : c.loop-at.at ≡ length os = omega (arith, c.operation_count-at-end.ensures.how_many_operations, c.loop-at.auto.at-end) in
-    let both = pieces_all operation_piece c.args.state.at os c.args.buffer.now c.loop-at.at c.loop-at.buffer c.loop-at.state.at inv.0 (omega arith) in
-    let counted = inv.3 ∙ end in
+    let left = operations_left c.next.new.self in
+    let inv = c.loop-operation.invariant in
+    let whole : done ++ (o ∷ left) ≡ operations_of (meant c.args.element.now) = ap (λ xs. done ++ xs) (sym c.in-Some.ensures.steps) ∙ inv.others in
+    let wrote = rw c.unwrap-state.ensures at c.write.ensures.operation_written in
+    let room : c.args.state.at + length (flat_map operation_piece done) + length (operation_piece o) ≤ length c.args.buffer.now =
+    omega (arith, within done left o _ whole operation_piece, c.requires.room) in
     record {
-      operations_written = both.1;
-      state_after = λ j. record { at = both.0 j; order = inv.1 j; elements = inv.2 j; operations = counted j };
+      pieces = pieces_more operation_piece c.args.state.at c.args.buffer.now done c.loop-operation.buffer c.write.new.buffer c.loop-operation.state.at c.unwrap-state.result.at o
+          inv.pieces room (ap (λ s. s.at) wrote.0) wrote.1;
+      others = append_assoc done (o ∷ []) left ∙ whole;
+      same_order = ap (λ s. s.order) wrote.0 ∙ inv.same_order;
+      same_elements = ap (λ s. s.elements) wrote.0 ∙ inv.same_elements;
+      counted = omega (arith, ap (λ s. s.operations) wrote.0, inv.counted, length_push done o);
     }

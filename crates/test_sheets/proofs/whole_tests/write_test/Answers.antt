@@ -13,11 +13,12 @@ use Rattle.march.specs.Tests.{Element, meant}
 use Rattle.march.specs.Building.{is_filled, is_whole}
 use Rattle.march.specs.Table.{elements_of, name_of}
 use Rattle.sheet_writer.specs.Sheets.{beginning, ending, element_line, sheet, sheet_text}
-use Rattle.sheet_writer.specs.Writing.{fits, begin_questions}
+use Rattle.sheet_writer.specs.Writing.{fits, begin_questions, end_questions}
 use Rattle.test_sheets.proofs.Bytes.{sheet_length}
 use Rattle.test_sheets.specs.RoundTrip.{Says}
 use Rattle.test_sheets.proofs.PieceRuns.{pieces_read_back}
 use Rattle.test_sheets.proofs.Trips.{reads_back}
+use Rattle.test_sheets.proofs.Written.{granted}
 use Rattle.test_sheets.proofs.whole_tests.write_test.Goals as goal
 
 -- what a whole test has
@@ -86,8 +87,8 @@ write_elements-filled-requires c =
       );
     }
 
-pub unreachable-requires : goal.unreachable-requires
-unreachable-requires c =
+pub unwrap-requires : goal.unwrap-requires
+unwrap-requires c =
     let t = c.args.test.now in
     let b = c.args.buffer.now in
     let es = c.elements.result.now in
@@ -112,7 +113,7 @@ unreachable-requires c =
       c.write_elements-filled.auto.buffer,
     ) in
     let some : 0 < s.elements = omega (arith, ap (λ s. s.elements) after, ap (λ s. s.elements) begun.0, parts.0, ap length are, length-map es meant) in
-    refused_not_0 _ _ c.in-Err.ensures.asks_in_order
+    granted (end_questions s cur) c.end.result c.end.ensures.asks_in_order
     (both_yes (fits s.at ending cur) (ltb 0 s.elements) 61 62 (le-leb (s.at + length ending) (length cur) fit) (lt-ltb 0 s.elements some))
 
 pub returns : goal.returns
@@ -125,7 +126,7 @@ returns c =
     let y = flat_map element_line (map meant c.elements.result.now) in
     let begun = c.in_ok-begun.ensures.sheet_begun in
     let filled = c.write_elements-filled.ensures in
-    let ended = c.in-Ok.ensures.ending_written in
+    let ended = rw c.unwrap.ensures at c.end.ensures.ending_written in
     let same : n ≡ name_of t = c.as_bytes.ensures.letters ∙ c.name-name.ensures.its_name in
     let whole : is_whole (elements_of t) ≡ true = sym c.if-not-is_whole.ensures.decides_whole in
     let room : length (sheet_text t) ≤ length b = omega (arith, c.sheet_length.ensures.length_of_sheet, c.if-buffer-sheet_length.false) in
@@ -136,12 +137,12 @@ returns c =
     let place : c.in_ok-begun.begun.at ≡ 0 + length x = omega (arith, ap (λ s. s.at) begun.0) in
     let first : Stands b 0 x c.in_ok-begun.begun.at c.begin.new.buffer = record { ends = place; text = begun.1 } in
     let second = stands_more b 0 x y _ c.write_elements-filled.result.at _ _ first filled.lines_written (ap (λ s. s.at) filled.state_after) (omega arith) in
-    let third = stands_more b 0 (x ++ y) ending _ c.in-Ok.length _ _ second ended.1 ended.0 (omega (arith, length-append x y)) in
+    let third = stands_more b 0 (x ++ y) ending _ c.unwrap.result _ _ second ended.1 ended.0 (omega (arith, length-append x y)) in
     let text : (x ++ y) ++ ending ≡ sheet_text t = append_assoc x y ending ∙ (λ j. sheet (same j) (are j)) in
-    let count : c.in-Ok.length ≡ length (sheet_text t) = omega (arith, third.ends, ap length text) in
+    let count : c.unwrap.result ≡ length (sheet_text t) = omega (arith, third.ends, ap length text) in
     let bytes : c.end.new.buffer ≡ over b 0 (sheet_text t) = third.text ∙ ap (over b 0) text in
-    let front : take c.in-Ok.length c.end.new.buffer ≡ sheet_text t =
-    ap (take c.in-Ok.length) bytes ∙ take_at (sheet_text t) _ c.in-Ok.length (sym count) in
+    let front : take c.unwrap.result c.end.new.buffer ≡ sheet_text t =
+    ap (take c.unwrap.result) bytes ∙ take_at (sheet_text t) _ c.unwrap.result (sym count) in
     record {
       asks_in_order = both_yes (is_whole (elements_of t)) (fits 0 (sheet_text t) b) 62 61 whole (le-leb (0 + length (sheet_text t)) (length b) (omega arith));
       sheet_written = (count, bytes);
