@@ -27,7 +27,7 @@ pub struct Books {
     pub finding: Finding,
 }
 
-// The ticket of a run. It can be let go by nobody: whoever has one hands it back by closing or quitting the run.
+// The ticket of a run. No caller can let it go: whoever has one hands it back by closing or quitting the run.
 pub struct Ticket {
     pub(crate) number: u64,
 }

@@ -28,6 +28,7 @@ impl<C: CamArray> Bench<C> {
         let operations = operation_count(size_of(&self.array));
         let ticket = self.start()?;
         let _ = self.step(&ticket, operations);
+        // the close of a whole run is never refused
         self.close(ticket).map_err(NotClosed::let_go)
     }
 }
