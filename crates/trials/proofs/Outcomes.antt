@@ -1,5 +1,7 @@
 -- The laws of outcomes.
-use Rattle.std.proofs.Common.{◌≡◌, ℕ, zero, suc, ◌+◌, ◌-◌, ◌*◌, ◌<◌, ◌≤◌, Bool, true, false, cond, eqb, List, [], ◌∷◌, ◌++◌, map, length, get_or, drop, sym, refl, ap, ◌∙◌, ap₂, append_assoc, mul-zero, mul-suc, add-one, arith, drop-cons}
+use Rattle.std.proofs.Common.{◌≡◌, ℕ, zero, suc, ◌+◌, ◌-◌, ◌*◌, ◌≤◌, Bool, true, false, cond, eqb, List, [], ◌∷◌, ◌++◌, map, length, get_or, sym, refl, ap, ◌∙◌, ap₂, append_assoc, mul-zero, mul-suc, arith}
+use Rattle.std.specs.List.{sum_by}
+use Rattle.std.proofs.lemmas.List.Sums.{sum_by-cons, sum_by-append}
 use Rattle.cam.specs.Machine.{upward}
 use Rattle.cam.specs.Model.{Build, State}
 use Rattle.cam.proofs.Machine.{misses-++}
@@ -10,17 +12,20 @@ use Rattle.march.specs.declared.element.Comparison.{Comparison}
 use Rattle.march.specs.declared.element.Element.{Element as ElementRecord}
 use Rattle.march.specs.Steps.{missing}
 use Rattle.march.specs.Tests.{Element, up, down, columns, at_word, on_column, visits, visit, steps_of, schedule, stepped, missed, after, misses, meant}
-use Rattle.trials.specs.Outcomes.{is_check, outcome, outcomes, check_count, ones, OutcomeLaws, reads_or_compares, checks_among, checks_of}
+use Rattle.trials.specs.Outcomes.{is_check, outcome, outcomes, check_count, ones, OutcomeLaws, reads_or_compares, checks_among, checks_of, checks_in}
 
 one_more : (t : Bool) (x : ℕ) (xs : List ℕ) → length (cond t (x ∷ []) [] ++ xs) ≡ cond t 1 0 + length xs
 one_more true x xs = omega arith
 one_more false x xs = omega arith
 
+pub checks-cons : (s : Step) (ss : List Step) → check_count (s ∷ ss) ≡ cond (is_check s.operation) 1 0 + check_count ss
+checks-cons s ss = sum_by-cons (λ s. cond (is_check s.operation) 1 0) s ss
+
 pub one_each : (B : Build) (ss : List Step) (S : State) → length (outcomes B ss S) ≡ check_count ss
 one_each B [] S = refl
 one_each B (s ∷ ss) S =
     one_more (is_check s.operation) (missed B s S) (outcomes B ss (stepped B s S))
-    ∙ ap (λ (n : ℕ). cond (is_check s.operation) 1 0 + n) (one_each B ss (stepped B s S))
+    ∙ ap (λ (n : ℕ). cond (is_check s.operation) 1 0 + n) (one_each B ss (stepped B s S)) ∙ sym (checks-cons s ss)
 
 few : (m : Bool) → cond {A = ℕ} m 1 0 ≤ 1
 few true = omega arith
@@ -36,9 +41,8 @@ zero_or_one B [] S i = omega arith
 zero_or_one B (s ∷ ss) S i =
     low_front (is_check s.operation) (missed B s S) (outcomes B ss (stepped B s S)) (few (missing B s S)) (zero_or_one B ss (stepped B s S)) i
 
-ones-++ : (xs ys : List ℕ) → ones (xs ++ ys) ≡ ones xs + ones ys
-ones-++ [] ys = omega arith
-ones-++ (x ∷ xs) ys = omega (arith, ones-++ xs ys)
+ones-cons : (x : ℕ) (xs : List ℕ) → ones (x ∷ xs) ≡ cond (eqb x 1) 1 0 + ones xs
+ones-cons x xs = sum_by-cons (λ x. cond (eqb x 1) 1 0) x xs
 
 outcomes-++ : (B : Build) (xs ys : List Step) (S : State) → outcomes B (xs ++ ys) S ≡ outcomes B xs S ++ outcomes B ys (after B xs S)
 outcomes-++ B [] ys S = refl
@@ -52,7 +56,7 @@ Fair B ss = (S : State) → ones (outcomes B ss S) ≡ misses B ss S
 
 fair-++ : (B : Build) (xs ys : List Step) → Fair B xs → Fair B ys → Fair B (xs ++ ys)
 fair-++ B xs ys f g S =
-    ap ones (outcomes-++ B xs ys S) ∙ ones-++ (outcomes B xs S) (outcomes B ys (after B xs S))
+    ap ones (outcomes-++ B xs ys S) ∙ sum_by-append _ (outcomes B xs S) (outcomes B ys (after B xs S))
     ∙ ap₂ ◌+◌ (f S) (g (after B xs S)) ∙ sym (misses-++ (stepped B) (missed B) xs ys S)
 
 fair_upward : (B : Build) (n : ℕ) (f : ℕ → List Step) → ((k : ℕ) → Fair B (f k)) → Fair B (upward n f)
@@ -67,15 +71,15 @@ fair_words : (B : Build) (W a : ℕ) (os : List TestOperation) → Fair B (map (
 fair_words B W a [] S = refl
 fair_words B W a (Write b ∷ os) S = omega (arith, fair_words B W a os (stepped B (at_word W a (Write b)) S))
 fair_words B W a (Read b ∷ os) S =
-    omega (arith, byte_one (missing B (at_word W a (Read b)) S), fair_words B W a os (stepped B (at_word W a (Read b)) S))
+    omega (arith, ones-cons (missed B (at_word W a (Read b)) S) (outcomes B (map (at_word W a) os) (stepped B (at_word W a (Read b)) S)), byte_one (missing B (at_word W a (Read b)) S), fair_words B W a os (stepped B (at_word W a (Read b)) S))
 fair_words B W a (Compare c ∷ os) S =
-    omega (arith, byte_one (missing B (at_word W a (Compare c)) S), fair_words B W a os (stepped B (at_word W a (Compare c)) S))
+    omega (arith, ones-cons (missed B (at_word W a (Compare c)) S) (outcomes B (map (at_word W a) os) (stepped B (at_word W a (Compare c)) S)), byte_one (missing B (at_word W a (Compare c)) S), fair_words B W a os (stepped B (at_word W a (Compare c)) S))
 fair_words B W a (Erase ∷ os) S = omega (arith, fair_words B W a os (stepped B (at_word W a Erase) S))
 
 fair_columns : (B : Build) (W j : ℕ) (cs : List Comparison) → Fair B (map (on_column W j) cs)
 fair_columns B W j [] S = refl
 fair_columns B W j (c ∷ cs) S =
-    omega (arith, byte_one (missing B (on_column W j c) S), fair_columns B W j cs (stepped B (on_column W j c) S))
+    omega (arith, ones-cons (missed B (on_column W j c) S) (outcomes B (map (on_column W j) cs) (stepped B (on_column W j c) S)), byte_one (missing B (on_column W j c) S), fair_columns B W j cs (stepped B (on_column W j c) S))
 
 fair_visit : (B : Build) (N W : ℕ) (e : Element) (v : ℕ) → Fair B (visit N W e v)
 fair_visit B N W (up os) v = fair_words B W v os
@@ -93,8 +97,7 @@ outcome_laws =
 
 -- how many reads and compares a schedule has
 checks-++ : (xs ys : List Step) → check_count (xs ++ ys) ≡ check_count xs + check_count ys
-checks-++ [] ys = omega arith
-checks-++ (x ∷ xs) ys = omega (arith, checks-++ xs ys)
+checks-++ xs ys = sum_by-append (λ s. cond (is_check s.operation) 1 0) xs ys
 
 checks_upward : (c n : ℕ) (f : ℕ → List Step) → ((k : ℕ) → check_count (f k) ≡ c) → check_count (upward n f) ≡ c * n
 checks_upward c zero f h = omega (arith, mul-zero c)
@@ -103,14 +106,18 @@ checks_upward c (suc n) f h =
 
 checks_words : (W a : ℕ) (os : List TestOperation) → check_count (map (at_word W a) os) ≡ checks_among os
 checks_words W a [] = refl
-checks_words W a (Write b ∷ os) = omega (arith, checks_words W a os)
-checks_words W a (Read b ∷ os) = omega (arith, checks_words W a os)
-checks_words W a (Compare c ∷ os) = omega (arith, checks_words W a os)
-checks_words W a (Erase ∷ os) = omega (arith, checks_words W a os)
+checks_words W a (o ∷ os) =
+    omega (arith, checks-cons (at_word W a o) (map (at_word W a) os), sum_by-cons (λ o. cond (reads_or_compares o) 1 0) o os, same o, checks_words W a os)
+  where
+    same : (o : TestOperation) → cond {A = ℕ} (is_check (at_word W a o).operation) 1 0 ≡ cond (reads_or_compares o) 1 0
+    same (Write b) = refl
+    same (Read b) = refl
+    same (Compare c) = refl
+    same Erase = refl
 
 checks_columns : (W j : ℕ) (cs : List Comparison) → check_count (map (on_column W j) cs) ≡ length cs
 checks_columns W j [] = refl
-checks_columns W j (c ∷ cs) = omega (arith, checks_columns W j cs)
+checks_columns W j (c ∷ cs) = omega (arith, checks-cons (on_column W j c) (map (on_column W j) cs), checks_columns W j cs)
 
 checks_visit : (N W : ℕ) (e : Element) (v : ℕ) → check_count (visit N W e v) ≡ checks_of e
 checks_visit N W (up os) v = checks_words W v os
@@ -122,16 +129,8 @@ checks_schedule : (N W : ℕ) (e : Element) (es : List Element) → check_count 
 checks_schedule N W e es =
     omega (arith, checks-++ (steps_of N W e) (schedule N W es), checks_upward (checks_of e) (visits N W e) (visit N W e) (checks_visit N W e))
 
--- one turn of a loop over operations, and of one over elements
-pub among_turn : (os : List TestOperation) (i : ℕ) (d : TestOperation) → i < length os
-    → checks_among (drop i os) ≡ cond (reads_or_compares (get_or os i d)) 1 0 + checks_among (drop (i + 1) os)
-among_turn os i d l =
-    ap checks_among (drop-cons os i d l) ∙ ap (λ (n : ℕ). cond (reads_or_compares (get_or os i d)) 1 0 + checks_among (drop n os)) (sym (add-one i))
-
-pub count_turn : (N W : ℕ) (rs : List ElementRecord) (i : ℕ) (d : ElementRecord) → i < length rs
-    → check_count (schedule N W (map meant (drop i rs)))
-    ≡ checks_of (meant (get_or rs i d)) * visits N W (meant (get_or rs i d)) + check_count (schedule N W (map meant (drop (i + 1) rs)))
-count_turn N W rs i d l =
-    ap (λ xs. check_count (schedule N W (map meant xs))) (drop-cons rs i d l)
-    ∙ checks_schedule N W (meant (get_or rs i d)) (map meant (drop (suc i) rs))
-    ∙ ap (λ (n : ℕ). checks_of (meant (get_or rs i d)) * visits N W (meant (get_or rs i d)) + check_count (schedule N W (map meant (drop n rs)))) (sym (add-one i))
+pub checks_each : (N W : ℕ) (rs : List ElementRecord) → sum_by (λ r. checks_in N W (meant r)) rs ≡ check_count (schedule N W (map meant rs))
+checks_each N W [] = refl
+checks_each N W (r ∷ rs) =
+    sum_by-cons (λ r. checks_in N W (meant r)) r rs ∙ ap (λ (n : ℕ). checks_in N W (meant r) + n) (checks_each N W rs)
+    ∙ sym (checks_schedule N W (meant r) (map meant rs))

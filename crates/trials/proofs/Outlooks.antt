@@ -11,8 +11,9 @@ use Rattle.march.specs.Tests.{Element, schedule, stepped, missed, after, misses}
 use Rattle.std.proofs.lemmas.Bool.{cond-true}
 use Rattle.march.proofs.Sweeps.{misses_within}
 use Rattle.trials.specs.declared.doing.Log.{Log}
+use Rattle.trials.specs.declared.result.TrialResult.{TrialResult}
 use Rattle.trials.specs.Outcomes.{is_check, outcomes, check_count}
-use Rattle.trials.proofs.Outcomes.{one_each}
+use Rattle.trials.proofs.Outcomes.{checks-cons, one_each}
 use Rattle.trials.specs.Trials.{logged, noted}
 
 pub record Outlook : Type 0 where
@@ -29,8 +30,8 @@ outlook B ss S b log =
     record {
       build = B;
       ends = after B ss S;
-      operations = log.operations + length ss;
-      misses = log.misses + misses B ss S;
+      operations = log.so_far.operations + length ss;
+      misses = log.so_far.misses + misses B ss S;
       buffer = over b log.outcomes (outcomes B ss S);
       filled = log.outcomes + length (outcomes B ss S);
     }
@@ -59,8 +60,8 @@ step_done B s ss S b log room = λ d.
     record {
       build = B;
       ends = after B ss (stepped B s S);
-      operations = (let e : log.operations + 1 + length ss ≡ log.operations + suc (length ss) = omega arith in e) d;
-      misses = (let e : log.misses + missed B s S + misses B ss (stepped B s S) ≡ log.misses + (missed B s S + misses B ss (stepped B s S)) = omega arith in e) d;
+      operations = (let e : log.so_far.operations + 1 + length ss ≡ log.so_far.operations + suc (length ss) = omega arith in e) d;
+      misses = (let e : log.so_far.misses + missed B s S + misses B ss (stepped B s S) ≡ log.so_far.misses + (missed B s S + misses B ss (stepped B s S)) = omega arith in e) d;
       buffer = over_noted (is_check s.operation) (missed B s S) log.outcomes b (outcomes B ss (stepped B s S)) room d;
       filled = filled_noted (is_check s.operation) (missed B s S) log.outcomes (outcomes B ss (stepped B s S)) d;
     }
@@ -78,19 +79,21 @@ outlook_step B E s ss S T b c log next e t n l room =
 pub outlook_at : (B : Build) (xs ys : List Step) (S : State) (b : List ℕ) (log : Log) → xs ≡ ys → outlook B xs S b log ≡ outlook B ys S b log
 outlook_at B xs ys S b log e = ap (λ zs. outlook B zs S b log) e
 
+abbrev told : ℕ → ℕ → TrialResult
+told operations misses = record { operations = operations; misses = misses }
+
 -- Nothing is left: what was to come has come.
 pub outlook_end : (B E : Build) (left from whole : List Step) (S T : State) (b c : List ℕ) (log start : Log)
     → outlook E left T c log ≡ outlook B from S b start → left ≡ [] → from ≡ whole
-    → start.operations ≡ 0 → start.misses ≡ 0 → start.outcomes ≡ 0
-    → (E ≡ B) × (T ≡ after B whole S) × (log.operations ≡ length whole) × (log.misses ≡ misses B whole S) × (c ≡ over b 0 (outcomes B whole S))
+    → start.so_far.operations ≡ 0 → start.so_far.misses ≡ 0 → start.outcomes ≡ 0
+    → (E ≡ B) × (T ≡ after B whole S) × (log.so_far ≡ record { operations = length whole; misses = misses B whole S }) × (c ≡ over b 0 (outcomes B whole S))
 outlook_end B E left from whole S T b c log start e none f z y x =
     let all : outlook E [] T c log ≡ outlook B whole S b start = sym (outlook_at E left [] T c log none) ∙ e ∙ outlook_at B from whole S b start f in
-    let done : log.operations + 0 ≡ start.operations + length whole = ap (λ o. o.operations) all in
-    let lost : log.misses + 0 ≡ start.misses + misses B whole S = ap (λ o. o.misses) all in (
+    let done : log.so_far.operations + 0 ≡ start.so_far.operations + length whole = ap (λ o. o.operations) all in
+    let lost : log.so_far.misses + 0 ≡ start.so_far.misses + misses B whole S = ap (λ o. o.misses) all in (
       ap (λ o. o.build) all,
       ap (λ o. o.ends) all,
-      omega arith,
-      omega arith,
+      ap₂ told (omega arith) (omega arith),
       sym (over_nil c log.outcomes) ∙ ap (λ o. o.buffer) all ∙ ap (λ (at : ℕ). over b at (outcomes B whole S)) x,
     )
 
@@ -103,15 +106,15 @@ whole_is N W n w xs {es} p q l e =
 -- at the start.
 pub outlook_room : (B E : Build) (s : Step) (ss from whole : List Step) (S T : State) (b c : List ℕ) (log start : Log)
     → outlook E (s ∷ ss) T c log ≡ outlook B from S b start → from ≡ whole
-    → start.operations ≡ 0 → start.misses ≡ 0 → start.outcomes ≡ 0
+    → start.so_far.operations ≡ 0 → start.so_far.misses ≡ 0 → start.outcomes ≡ 0
     → check_count whole ≤ length b → length c ≡ length b
-    → (is_check s.operation ≡ true → log.outcomes < length c) × (log.operations < length whole) × (log.misses ≤ length whole)
+    → (is_check s.operation ≡ true → log.outcomes < length c) × (log.so_far.operations < length whole) × (log.so_far.misses ≤ length whole)
 outlook_room B E s ss from whole S T b c log start e f z y x room size =
     let same : log.outcomes + length (outcomes E (s ∷ ss) T) ≡ start.outcomes + length (outcomes B from S) = ap (λ o. o.filled) e in
-    let done : log.operations + suc (length ss) ≡ start.operations + length from = ap (λ o. o.operations) e in
-    let lost : log.misses + misses E (s ∷ ss) T ≡ start.misses + misses B from S = ap (λ o. o.misses) e in
+    let done : log.so_far.operations + suc (length ss) ≡ start.so_far.operations + length from = ap (λ o. o.operations) e in
+    let lost : log.so_far.misses + misses E (s ∷ ss) T ≡ start.so_far.misses + misses B from S = ap (λ o. o.misses) e in
     let long : length from ≡ length whole = ap length f in (
-      λ t. let one : check_count (s ∷ ss) ≡ 1 + check_count ss = ap (λ (n : ℕ). n + check_count ss) (cond-true (is_check s.operation) 1 0 t) in
+      λ t. let one : check_count (s ∷ ss) ≡ 1 + check_count ss = checks-cons s ss ∙ ap (λ (n : ℕ). n + check_count ss) (cond-true (is_check s.operation) 1 0 t) in
           omega (arith, one_each E (s ∷ ss) T, one_each B from S, ap check_count f),
       omega arith,
       omega (arith, misses_within B from S),

@@ -1,12 +1,12 @@
 -- The outcomes of a list of steps: a byte for each read or compare, 1 for a miss and 0 otherwise.
-use Rattle.std.specs.Prelude.{◌≡◌, ℕ, ◌+◌, ◌≤◌, Bool, true, false, cond, List, [], ◌∷◌, ◌++◌, length, ◌==◌, slice_index}
+use Rattle.std.specs.Prelude.{◌≡◌, ℕ, ◌*◌, ◌≤◌, Bool, true, false, cond, List, [], ◌∷◌, ◌++◌, length, ◌==◌, slice_index, count_by}
 use Rattle.cam.specs.Model.{Build, State}
 use Rattle.cam.specs.declared.operation.Operation.{Operation}
 use Rattle.cam.specs.declared.operation.Operation.TheVariants as operation
 use Rattle.march.specs.declared.step.Step.{Step}
 use Rattle.march.specs.declared.element.TestOperation.{TestOperation}
 use Rattle.march.specs.declared.element.TestOperation.TheVariants.{Write, Read, Compare, Erase}
-use Rattle.march.specs.Tests.{Element, up, down, columns, schedule, stepped, missed, misses}
+use Rattle.march.specs.Tests.{Element, up, down, columns, visits, schedule, stepped, missed, misses}
 
 -- a read or a compare
 abbrev pub is_check : Operation → Bool
@@ -26,13 +26,11 @@ outcomes B (s ∷ ss) S = outcome B s S ++ outcomes B ss (stepped B s S)
 
 -- how many of the steps read or compare
 abbrev pub check_count : List Step → ℕ
-check_count [] = 0
-check_count (s ∷ ss) = cond (is_check s.operation) 1 0 + check_count ss
+check_count ss = count_by (λ s. is_check s.operation) ss
 
 -- how many bytes are 1
 abbrev pub ones : List ℕ → ℕ
-ones [] = 0
-ones (x ∷ xs) = cond (x == 1) 1 0 + ones xs
+ones xs = count_by (λ x. x == 1) xs
 
 -- What the outcomes of a test tell, whatever the array: there is one for each read or compare, each is 0 or 1, and as
 -- many are 1 as steps missed.
@@ -49,11 +47,14 @@ reads_or_compares (Compare c) = true
 reads_or_compares Erase = false
 
 abbrev pub checks_among : List TestOperation → ℕ
-checks_among [] = 0
-checks_among (o ∷ os) = cond (reads_or_compares o) 1 0 + checks_among os
+checks_among os = count_by reads_or_compares os
 
 -- how many reads and compares a visit does
 abbrev pub checks_of : Element → ℕ
 checks_of (up os) = checks_among os
 checks_of (down os) = checks_among os
 checks_of (columns cs) = length cs
+
+-- and how many all visits of an element do
+abbrev pub checks_in : ℕ → ℕ → Element → ℕ
+checks_in N W e = checks_of e * visits N W e

@@ -33,16 +33,10 @@ pub record TellsAsARun (B : Build) (S : State) (t : TrialResult) : Type 0 where
 abbrev pub logged : Build → Step → State → Log → Log
 logged B s S log =
     record {
-      operations = log.operations + 1;
-      misses = log.misses + missed B s S;
+      so_far = record { operations = log.so_far.operations + 1; misses = log.so_far.misses + missed B s S };
       outcomes = log.outcomes + cond (is_check s.operation) 1 0;
     }
 
 -- a step's outcome, if it has one, stands in the buffer at a place
 abbrev pub noted : Build → Step → State → ℕ → List ℕ → List ℕ
 noted B s S at old = cond (is_check s.operation) (slice_set old at (missed B s S)) old
-
--- the log of a whole trial
-pub record Answers (B : Build) (es : List Element) (S : State) (log : Log) : Type 0 where
-  pub operations : log.operations ≡ length (steps_on B es)
-  pub misses : log.misses ≡ misses B (steps_on B es) S

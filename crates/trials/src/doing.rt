@@ -5,26 +5,27 @@ ghost use Rattle.cam.specs.Operations.{operated};
 ghost use Rattle.march.specs.Tests.{after};
 ghost use Rattle.march.specs.Table.{elements_of};
 ghost use Rattle.trials.specs.Outcomes.{is_check, outcomes as outcomes_of, check_count};
-ghost use Rattle.trials.specs.Trials.{steps_on, Answers, logged, noted};
+ghost use Rattle.trials.specs.Trials.{steps_on, trial_of, logged, noted};
 
 use crate::counting::is_check;
+use crate::result::TrialResult;
 use cam::array::CamArray;
 use march::step::{Step, perform};
 use march::test::Test;
 
-// What a trial has done so far: its operations, those of them that missed, and the outcomes that are written.
+// What a trial has done so far, and how many outcomes are written: the place of the next one in the buffer. It is a number,
+// since a proof knows nothing of a buffer's bytes after an iterator wrote them.
 #[derive(Clone, Copy)]
 pub(crate) struct Log {
-    pub(crate) operations: u32,
-    pub(crate) misses: u32,
+    pub(crate) so_far: TrialResult,
     pub(crate) outcomes: usize,
 }
 
 // Does a step and writes its outcome, if it has one, behind those before it.
 fn do_step<C: CamArray>(array: &mut C, step: Step, buffer: &mut [u8], log: Log) -> Log
     requires room { is_check step.operation ≡ true → log.outcomes < length buffer.old }
-    requires operations_fit { log.operations < 65536 }
-    requires misses_fit { log.misses < 65536 }
+    requires operations_fit { log.so_far.operations < 65536 }
+    requires misses_fit { log.so_far.misses < 65536 }
     ensures counted_once { result ≡ logged (C.build array.old) step (C.state array.old) log }
     ensures outcome_noted { buffer.new ≡ noted (C.build array.old) step (C.state array.old) log.outcomes buffer.old }
     ensures state_after { C.state array.new ≡ operated (C.build array.old) step.operation (C.state array.old) }
@@ -37,8 +38,10 @@ fn do_step<C: CamArray>(array: &mut C, step: Step, buffer: &mut [u8], log: Log) 
         outcomes += 1;
     }
     Log {
-        operations: log.operations + 1,
-        misses: log.misses + missed as u32,
+        so_far: TrialResult {
+            operations: log.so_far.operations + 1,
+            misses: log.so_far.misses + missed as u32,
+        },
         outcomes,
     }
 }
@@ -46,7 +49,7 @@ fn do_step<C: CamArray>(array: &mut C, step: Step, buffer: &mut [u8], log: Log) 
 // Does the whole test, from its first element to its last.
 pub(crate) fn do_all<C: CamArray>(test: &Test, array: &mut C, buffer: &mut [u8]) -> Log
     requires room { check_count (steps_on (C.build array.old) (elements_of test.now)) ≤ length buffer.old }
-    ensures operations_and_misses { Answers (C.build array.old) (elements_of test.now) (C.state array.old) result }
+    ensures operations_and_misses { result.so_far ≡ trial_of (C.build array.old) (elements_of test.now) (C.state array.old) }
     ensures outcome_bytes { buffer.new ≡ over buffer.old 0 (outcomes_of (C.build array.old) (steps_on (C.build array.old) (elements_of test.now)) (C.state array.old)) }
     ensures state_after { C.state array.new ≡ after (C.build array.old) (steps_on (C.build array.old) (elements_of test.now)) (C.state array.old) }
     ensures build_stays { C.build array.new ≡ C.build array.old }
@@ -54,8 +57,10 @@ pub(crate) fn do_all<C: CamArray>(test: &Test, array: &mut C, buffer: &mut [u8])
     let words = array.words();
     let width = array.width();
     let mut log = Log {
-        operations: 0,
-        misses: 0,
+        so_far: TrialResult {
+            operations: 0,
+            misses: 0,
+        },
         outcomes: 0,
     };
     for element in test.elements() {

@@ -13,6 +13,7 @@ use crate::doing::do_all;
 use crate::result::TrialResult;
 use cam::array::CamArray;
 use cam::fault::{Fault, Reason};
+use cam::size::size_of;
 use march::test::Test;
 
 // Does the test on the array, from its first element to its last, and writes a byte for each read or compare into the
@@ -32,13 +33,9 @@ pub fn trial<C: CamArray>(
     ensures mlt1_tells_as_a_run { elements_of test.now ≡ mlt1 → IfOk result (λ t. TellsAsARun (C.build array.old) (C.state array.old) t) }
     ensures laws_of_outcomes { OutcomeLaws }
 {
-    let outcomes = outcome_count(test, array.words(), array.width());
+    let outcomes = outcome_count(test, size_of(array));
     if buffer.len() < outcomes as usize {
         return Err(Fault::of_call(Reason::OutcomesDoNotFit));
     }
-    let log = do_all(test, array, buffer);
-    Ok(TrialResult {
-        operations: log.operations,
-        misses: log.misses,
-    })
+    Ok(do_all(test, array, buffer).so_far)
 }

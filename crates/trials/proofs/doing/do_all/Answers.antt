@@ -95,8 +95,8 @@ returns g c =
     (whole_is _ _ n c.width-width.result _ c.words-words.ensures.word_count c.width-width.ensures.bits_of_word (m.formed x).few_bits c.elements-element-items.ensures.all_elements)
     refl refl refl in
     record {
-      operations_and_misses = record { operations = all.2; misses = all.3 };
-      outcome_bytes = all.4;
+      operations_and_misses = all.2;
+      outcome_bytes = all.3;
       state_after = all.1;
       build_stays = all.0;
     }
