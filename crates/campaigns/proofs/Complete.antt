@@ -2,6 +2,8 @@
 use Rattle.std.proofs.Common.{◌≡◌, ℕ, zero, suc, ◌+◌, ◌*◌, ◌<◌, ◌≤◌, Bool, true, false, cond, ◌&&◌, ◌||◌, eqb, ltb, List, [], ◌∷◌, map, length, sym, refl, ap, ◌∙◌, ap₂, mul-le-mul, arith, length-append}
 use mathlib.Core.Path.{fun_ext}
 use Rattle.std.proofs.lemmas.Bool.{true≢false, eq-eqb, ltb-false, cond-true, and_from, and_right}
+use Rattle.std.specs.List.{count_by}
+use Rattle.std.proofs.lemmas.List.Sums.{sum_by-append}
 use Rattle.cam.specs.Machine.{upward}
 use Rattle.cam.specs.Model.{Build, State, Steady}
 use Rattle.cam.specs.Defects.{Sound, same_cell, storage_with, settled_bit}
@@ -19,9 +21,9 @@ use Rattle.campaigns.specs.declared.faults.CampaignFault.{CampaignFault}
 use Rattle.campaigns.specs.declared.faults.CampaignFault.TheVariants.{Comparison, Storage, StuckMark}
 use Rattle.campaigns.specs.declared.row.Row.{Row}
 use Rattle.campaigns.specs.Faults.{campaign_faults, places_in, wrong_pairs}
-use Rattle.campaigns.specs.Campaigns.{place_at, places, faulty_build, faulty_state, detected_at, count_of, row_from, row_of, full_row, DetectsAll}
+use Rattle.campaigns.specs.Campaigns.{place_at, places, faulty_build, faulty_state, detected_at, row_from, row_of, full_row, DetectsAll}
 use Rattle.campaigns.proofs.Tenths.{tenths_all}
-use Rattle.campaigns.proofs.Counts.{count-++, places_of, places_are, places_some}
+use Rattle.campaigns.proofs.Counts.{places_of, places_are, places_some}
 
 -- each named fault answers some pair wrongly
 wrong_some : (f : NamedFault) → (h : Bool) × ((b : Bool) × (wrong_pairs f h b ≡ true))
@@ -125,10 +127,10 @@ detected f N W a j some ha hj =
     misses_some (faulty_build f N W (place_at a j)) (faulty_state f (place_at a j)) N W sizes.0 sizes.1 some (steady f N W a j) (not_sound f N W a j ha hj)
 
 -- every item of a list that is put together from lists passes
-count_each : {X : Type 0} (f : X → Bool) (n : ℕ) (g : ℕ → List X) → ((k : ℕ) → k < n → count_of f (g k) ≡ length (g k)) → count_of f (upward n g) ≡ length (upward n g)
+count_each : {X : Type 0} (f : X → Bool) (n : ℕ) (g : ℕ → List X) → ((k : ℕ) → k < n → count_by f (g k) ≡ length (g k)) → count_by f (upward n g) ≡ length (upward n g)
 count_each f zero g h = refl
 count_each f (suc n) g h =
-    omega (arith, count-++ f (upward n g) (g n), length-append (upward n g) (g n), count_each f n g (λ k l. h k (omega arith)), h n (omega arith))
+    omega (arith, sum_by-append (λ x. cond (f x) 1 0) (upward n g) (g n), length-append (upward n g) (g n), count_each f n g (λ k l. h k (omega arith)), h n (omega arith))
 
 inside : (f : CampaignFault) (W j : ℕ) → 1 ≤ W → j < places_in f W → j < W
 inside (Comparison g) W j some l = l
@@ -139,9 +141,9 @@ pub detects_all : DetectsAll mlt1
 detects_all f N W words some =
     let total = N * places_in f W in
     let long : length (places f N W) ≡ total = places_are f N W in
-    let all : count_of (detected_at mlt1 f N W) (places f N W) ≡ length (places f N W) =
+    let all : count_by (detected_at mlt1 f N W) (places f N W) ≡ length (places f N W) =
     count_each (detected_at mlt1 f N W) N (places_of f W) (λ a ha. count_each (detected_at mlt1 f N W) (places_in f W) (λ j. place_at a j ∷ []) (λ j hj.
-    ap (λ (b : Bool). cond {A = ℕ} b 1 0 + 0) (detected f N W a j some ha (inside f W j some hj)))) in
+    ap (λ (b : Bool). 0 + cond {A = ℕ} b 1 0) (detected f N W a j some ha (inside f W j some hj)))) in
     let more : 0 < total = omega (arith, mul-le-mul words (places_some f W some)) in
     ap₂ row_from (all ∙ long) long ∙ ap {B = Row} (λ (t : ℕ). record { detected = total; total = total; tenths = t }) (tenths_all total more)
 

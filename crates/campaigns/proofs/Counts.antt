@@ -1,15 +1,13 @@
 -- Counting the places at which a fault is detected.
 use Rattle.std.proofs.Common.{◌≡◌, ℕ, ◌+◌, ◌*◌, ◌≤◌, Bool, true, false, cond, List, [], ◌∷◌, ◌++◌, length, refl, ap, ◌∙◌, mul_comm, add-one, arith}
+use Rattle.std.specs.List.{count_by}
+use Rattle.std.proofs.lemmas.List.Sums.{sum_by_push, sum_by-append}
 use Rattle.cam.specs.Machine.{upward}
 use Rattle.march.proofs.Lengths.{upward_length}
 use Rattle.campaigns.specs.declared.faults.CampaignFault.{CampaignFault}
 use Rattle.campaigns.specs.declared.faults.CampaignFault.TheVariants.{Comparison, Storage, StuckMark}
 use Rattle.campaigns.specs.Faults.{places_in}
-use Rattle.campaigns.specs.Campaigns.{Place, place_at, count_of, PlacesAre}
-
-pub count-++ : {X : Type 0} (f : X → Bool) (xs ys : List X) → count_of f (xs ++ ys) ≡ count_of f xs + count_of f ys
-count-++ f [] ys = omega arith
-count-++ f (x ∷ xs) ys = omega (arith, count-++ f xs ys)
+use Rattle.campaigns.specs.Campaigns.{Place, place_at, PlacesAre}
 
 -- the places of word a
 abbrev pub places_of : CampaignFault → ℕ → ℕ → List Place
@@ -20,23 +18,14 @@ abbrev pub some_of : ℕ → ℕ → List Place
 some_of n a = upward n (λ j. place_at a j ∷ [])
 
 -- one column more, and one word more
-pub column_more : (det : Place → Bool) (a j : ℕ) → count_of det (some_of (j + 1) a) ≡ count_of det (some_of j a) + cond (det (place_at a j)) 1 0
+pub column_more : (det : Place → Bool) (a j : ℕ) → count_by det (some_of (j + 1) a) ≡ count_by det (some_of j a) + cond (det (place_at a j)) 1 0
 column_more det a j =
-    ap (λ (n : ℕ). count_of det (some_of n a)) (add-one j) ∙ count-++ det (some_of j a) (place_at a j ∷ [])
-    ∙ (let e : count_of det (some_of j a) + (cond (det (place_at a j)) 1 0 + 0) ≡ count_of det (some_of j a) + cond (det (place_at a j)) 1 0 = omega arith in e)
+    ap (λ (n : ℕ). count_by det (some_of n a)) (add-one j) ∙ sum_by_push (λ p. cond (det p) 1 0) (some_of j a) (place_at a j)
 
 pub word_more : (det : Place → Bool) (f : CampaignFault) (W a : ℕ)
-    → count_of det (upward (a + 1) (places_of f W)) ≡ count_of det (upward a (places_of f W)) + count_of det (places_of f W a)
+    → count_by det (upward (a + 1) (places_of f W)) ≡ count_by det (upward a (places_of f W)) + count_by det (places_of f W a)
 word_more det f W a =
-    ap (λ (n : ℕ). count_of det (upward n (places_of f W))) (add-one a) ∙ count-++ det (upward a (places_of f W)) (places_of f W a)
-
-few : (b : Bool) → cond {A = ℕ} b 1 0 ≤ 1
-few true = omega arith
-few false = omega arith
-
-pub count_within : {X : Type 0} (f : X → Bool) (xs : List X) → count_of f xs ≤ length xs
-count_within f [] = omega arith
-count_within f (x ∷ xs) = omega (arith, few (f x), count_within f xs)
+    ap (λ (n : ℕ). count_by det (upward n (places_of f W))) (add-one a) ∙ sum_by-append (λ p. cond (det p) 1 0) (upward a (places_of f W)) (places_of f W a)
 
 pub places_are : PlacesAre
 places_are f N W =

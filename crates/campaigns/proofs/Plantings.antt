@@ -1,11 +1,12 @@
 -- Planting faults.
-use Rattle.std.proofs.Common.{◌≡◌, ℕ, Bool, true, false, not, ◌&&◌, ◌||◌, eqb, [], ◌∷◌, Ok, Err, Result, sym, refl, ap, ◌∙◌, ap₂, MatchResult}
+use Rattle.std.proofs.Common.{◌≡◌, ℕ, ◌+◌, ◌<◌, List, length, get_or, drop, add-one, drop-cons, Bool, true, false, not, ◌&&◌, ◌||◌, eqb, [], ◌∷◌, Ok, Err, Result, sym, refl, ap, ◌∙◌, ap₂, MatchResult}
 use mathlib.Core.Path.{fun_ext}
 use Rattle.std.proofs.lemmas.Bool.{true≢false, eqb-true, and_parts}
 use Rattle.cam.specs.Model.{Build}
 use Rattle.cam.specs.Defects.{in_set, is_pair, same_cell, with_pair, has_cell}
 use Rattle.cam.specs.Refusals.{ask, Asks}
 use Rattle.cam.specs.declared.fault.Fault.{Fault}
+use Rattle.cam.specs.declared.defect.Pair.{Pair}
 use Rattle.cam.specs.declared.defect.WrongSet.{WrongSet}
 use Rattle.cam.proofs.Asking.{refused_not_0, both_yes}
 use Rattle.cam.proofs.Below.{split}
@@ -91,25 +92,64 @@ pub state_kept : (p q : PlaneArray) (r : Result (Unit {0}) Fault) → MatchResul
 state_kept p q (Ok u) e = e
 state_kept p q (Err f) e = ap state_of e
 
--- four pairs, one after the other
-pub four_planted : (a j : ℕ) (s : WrongSet) (A B C D E : Build)
-    → B ≡ with_pairs a j (λ g d. is_pair false false g d && s.has00) A
-    → C ≡ with_pairs a j (λ g d. is_pair false true g d && s.has01) B
-    → D ≡ with_pairs a j (λ g d. is_pair true true g d && s.has11) C
-    → E ≡ with_pairs a j (λ g d. is_pair true false g d && s.has10) D
-    → E ≡ with_pairs a j (in_set s) A
-four_planted a j s A B C D E p q r t =
-    let two = q ∙ ap (with_pairs a j (λ g d. is_pair false true g d && s.has01)) p ∙ pairs_joined a j _ _ A in
-    let three = r ∙ ap (with_pairs a j (λ g d. is_pair true true g d && s.has11)) two ∙ pairs_joined a j _ _ A in
-    t ∙ ap (with_pairs a j (λ g d. is_pair true false g d && s.has10)) three ∙ pairs_joined a j _ _ A
-    ∙ pairs_same a j _ (in_set s) A (λ g d. each g d)
+-- those of some pairs that are in a set
+abbrev pub among : WrongSet → List Pair → Bool → Bool → Bool
+among s [] h b = false
+among s (p ∷ ps) h b = among s ps h b || (is_pair p.held p.comparand h b && in_set s p.held p.comparand)
+
+abbrev pub pair : Bool → Bool → Pair
+pair h b = record { held = h; comparand = b }
+
+abbrev pub four_pairs : List Pair
+four_pairs = pair false false ∷ pair false true ∷ pair true true ∷ pair true false ∷ []
+
+-- one of the four pairs is planted, if it is in the set
+pub pair_turn : (a j i : ℕ) (s : WrongSet) (B E W : Build) → i < 4 → has_cell B a j ≡ true
+    → with_pairs a j (among s (drop i four_pairs)) B ≡ W
+    → (let p = get_or four_pairs i (pair false false) in E ≡ with_pairs a j (λ h b. is_pair p.held p.comparand h b && in_set s p.held p.comparand) B)
+    → (with_pairs a j (among s (drop (i + 1) four_pairs)) E ≡ W) × (has_cell E a j ≡ true)
+pair_turn a j i s B E W l inside w e =
+    let p = get_or four_pairs i (pair false false) in
+    let rest = drop (i + 1) four_pairs in (
+      ap (with_pairs a j (among s rest)) e ∙ pairs_joined a j (among s rest) _ B
+          ∙ ap (λ qs. with_pairs a j (among s qs) B) (ap (λ (n : ℕ). p ∷ drop n four_pairs) (add-one i) ∙ sym (drop-cons four_pairs i (pair false false) l)) ∙ w,
+      ap (λ B. has_cell B a j) e ∙ inside,
+    )
+
+none_there : (s p w : Bool) → ((s && (p && false)) || w) ≡ w
+none_there true true w = refl
+none_there true false w = refl
+none_there false p w = refl
+
+-- a pair that is not wanted
+pub not_planted : (a j : ℕ) (h b wanted : Bool) (B : Build) → wanted ≡ false → B ≡ with_pairs a j (λ g d. is_pair h b g d && wanted) B
+not_planted a j h b wanted B t = λ d.
+    record {
+      words = B.words;
+      width = B.width;
+      storage = B.storage;
+      wrong = fun_ext (λ k. fun_ext (λ i. fun_ext (λ g. fun_ext (λ c.
+          sym (ap (λ w. (same_cell a j k i && (is_pair h b g c && w)) || B.wrong k i g c) t ∙ none_there (same_cell a j k i) (is_pair h b g c) (B.wrong k i g c)))))) d;
+      stuck = B.stuck;
+    }
+
+-- all four are planted
+pub four_planted : (a j : ℕ) (s : WrongSet) (ps qs : List Pair) (B E : Build) → ps ≡ four_pairs → qs ≡ []
+    → with_pairs a j (among s qs) E ≡ with_pairs a j (among s ps) B → E ≡ with_pairs a j (in_set s) B
+four_planted a j s ps qs B E four none e =
+    not_planted a j false false false E refl ∙ pairs_same a j _ (among s []) E (λ h b. and_no (is_pair false false h b))
+    ∙ ap (λ qs. with_pairs a j (among s qs) E) (sym none) ∙ e ∙ ap (λ ps. with_pairs a j (among s ps) B) four ∙ pairs_same a j _ (in_set s) B each
   where
+    and_no : (p : Bool) → (p && false) ≡ false
+    and_no true = refl
+    and_no false = refl
+
     or_no : (x : Bool) → (x || false) ≡ x
     or_no true = refl
     or_no false = refl
 
-    each : (g d : Bool) → ((is_pair true false g d && s.has10) || ((is_pair true true g d && s.has11) || ((is_pair false true g d && s.has01) || (is_pair false false g d && s.has00)))) ≡ in_set s g d
-    each true true = or_no s.has11
-    each true false = or_no s.has10
+    each : (h b : Bool) → among s four_pairs h b ≡ in_set s h b
+    each true true = or_no _ ∙ or_no s.has11
+    each true false = or_no _ ∙ or_no _ ∙ or_no s.has10
     each false true = or_no s.has01
     each false false = refl

@@ -1,5 +1,5 @@
 -- Campaigns: a test is done with one fault at each place in turn, and its detections are counted.
-use Rattle.std.specs.Prelude.{◌≡◌, ℕ, ◌+◌, ◌*◌, ◌<◌, ◌≤◌, Bool, cond, ◌&&◌, List, [], ◌∷◌, length, nat_le, nat_lt, slice_index_or}
+use Rattle.std.specs.Prelude.{◌≡◌, ℕ, ◌+◌, ◌*◌, ◌<◌, ◌≤◌, Bool, cond, ◌&&◌, List, [], ◌∷◌, length, nat_le, nat_lt, slice_index_or, count_by}
 use Rattle.cam.specs.Machine.{upward}
 use Rattle.cam.specs.Model.{Build, State}
 use Rattle.cam.specs.Defects.{flawless, cleared}
@@ -42,17 +42,12 @@ faulty_state f p = settled_by f p.word p.column cleared
 abbrev pub detected_at : List Element → CampaignFault → ℕ → ℕ → Place → Bool
 detected_at es f N W p = nat_lt 0 (misses (faulty_build f N W p) (schedule N W es) (faulty_state f p))
 
--- how many items of a list pass
-abbrev pub count_of : {X : Type 0} → (X → Bool) → List X → ℕ
-count_of f [] = 0
-count_of f (x ∷ xs) = cond (f x) 1 0 + count_of f xs
-
 -- the row of a fault
 abbrev pub row_from : ℕ → ℕ → Row
 row_from detected total = record { detected = detected; total = total; tenths = tenths detected total }
 
 abbrev pub row_of : List Element → ℕ → ℕ → CampaignFault → Row
-row_of es N W f = row_from (count_of (detected_at es f N W) (places f N W)) (length (places f N W))
+row_of es N W f = row_from (count_by (detected_at es f N W) (places f N W)) (length (places f N W))
 
 -- a fault has a place in each cell, a stuck mark in each word
 abbrev pub PlacesAre : Type 0

@@ -1,54 +1,30 @@
 // One place of a campaign.
-ghost use Rattle.std.specs.Prelude.{◌≡◌, ◌<◌, ◌≤◌, vec_len};
+ghost use Rattle.std.specs.Prelude.{◌≡◌, ◌<◌};
 ghost use Rattle.march.specs.Table.{elements_of};
 ghost use Rattle.campaigns.specs.Campaigns.{place_at, detected_at};
 
 use crate::detecting::detects;
 use crate::faults::CampaignFault;
 use crate::planting::plant;
-use crate::size::Size;
-use cam::array::CamArray;
-use cam::index::{ColumnIndex, WordIndex};
+use crate::records::CampaignRecords;
+use cam::index::CellIndex;
 use march::test::Test;
-use planes::array::{NotMade, PlaneArray};
-use planes::word::WordRecord;
+use planes::array::PlaneArray;
 
-// Whether a fault was detected, and the caller's records.
-pub(crate) struct Examined {
-    pub(crate) detected: bool,
-    pub(crate) records: Vec<WordRecord>,
-}
-
-// Makes a new array, plants the fault at a place, and does the test up to its first miss.
-pub(crate) fn examine(
-    test: &Test,
-    fault: CampaignFault,
-    word: WordIndex,
-    column: ColumnIndex,
-    size: Size,
-    records: Vec<WordRecord>,
-) -> Examined
-    requires word_inside { word.number < size.words }
-    requires column_inside { column.number < size.width }
-    requires record_a_word { size.words ≤ vec_len records }
-    ensures detected_at_place { result.detected ≡ detected_at (elements_of test.now) fault size.words size.width (place_at word.number column.number) }
-    ensures still_a_record_a_word { size.words ≤ vec_len result.records }
-{
-    match PlaneArray::new(records, size.words, size.width) {
-        Ok(made) => {
-            let mut array = made;
-            plant(&mut array, fault, word, column);
-            let detected = detects(test, &mut array);
-            Examined {
-                detected,
-                records: array.into_records(),
-            }
-        }
-        Err(NotMade { records, fault: _ }) => {
-            Examined {
-                detected: false,
-                records,
-            }
-        }
+impl CampaignRecords {
+    // Makes a new array, plants the fault at a place, and does the test up to its first miss: whether the fault was
+    // detected, and the records again.
+    pub(crate) fn examine(self, test: &Test, fault: CampaignFault, cell: CellIndex) -> (bool, Self)
+        requires word_inside { cell.word.number < self.size.words }
+        requires column_inside { cell.column.number < self.size.width }
+        ensures detected_at_place { result.0 ≡ detected_at (elements_of test.now) fault self.size.words self.size.width (place_at cell.word.number cell.column.number) }
+        ensures size_stays { result.1.size ≡ self.size }
+    {
+        let CampaignRecords { records, size } = self;
+        let mut array = PlaneArray::new(records, size).unwrap();
+        plant(&mut array, fault, cell);
+        let detected = detects(test, &mut array);
+        let records = array.into_records();
+        (detected, CampaignRecords { records, size })
     }
 }

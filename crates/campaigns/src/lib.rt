@@ -7,5 +7,5 @@ pub mod examining;
 pub mod faults;
 pub mod percent;
 pub mod planting;
+pub mod records;
 pub mod row;
-pub mod size;
