@@ -115,9 +115,10 @@ checks_words W a (o ∷ os) =
     same (Compare c) = refl
     same Erase = refl
 
-checks_columns : (W j : ℕ) (cs : List Comparison) → check_count (map (on_column W j) cs) ≡ length cs
+checks_columns : (W j : ℕ) (cs : List Comparison) → check_count (map (on_column W j) cs) ≡ checks_among (map Compare cs)
 checks_columns W j [] = refl
-checks_columns W j (c ∷ cs) = omega (arith, checks-cons (on_column W j c) (map (on_column W j) cs), checks_columns W j cs)
+checks_columns W j (c ∷ cs) =
+    omega (arith, checks-cons (on_column W j c) (map (on_column W j) cs), sum_by-cons (λ o. cond (reads_or_compares o) 1 0) (Compare c) (map Compare cs), checks_columns W j cs)
 
 checks_visit : (N W : ℕ) (e : Element) (v : ℕ) → check_count (visit N W e v) ≡ checks_of e
 checks_visit N W (up os) v = checks_words W v os

@@ -79,22 +79,28 @@ outlook_step B E s ss S T b c log next e t n l room =
 pub outlook_at : (B : Build) (xs ys : List Step) (S : State) (b : List ℕ) (log : Log) → xs ≡ ys → outlook B xs S b log ≡ outlook B ys S b log
 outlook_at B xs ys S b log e = ap (λ zs. outlook B zs S b log) e
 
+-- a trial that has done nothing, with all of these steps before it
+abbrev pub nothing_done : Log
+nothing_done = record { so_far = record { operations = 0; misses = 0 }; outcomes = 0 }
+
+abbrev pub whole_outlook : Build → List Step → State → List ℕ → Outlook
+whole_outlook B ss S b = outlook B ss S b nothing_done
+
 abbrev told : ℕ → ℕ → TrialResult
 told operations misses = record { operations = operations; misses = misses }
 
 -- Nothing is left: what was to come has come.
-pub outlook_end : (B E : Build) (left from whole : List Step) (S T : State) (b c : List ℕ) (log start : Log)
-    → outlook E left T c log ≡ outlook B from S b start → left ≡ [] → from ≡ whole
-    → start.so_far.operations ≡ 0 → start.so_far.misses ≡ 0 → start.outcomes ≡ 0
+pub outlook_end : (B E : Build) (left whole : List Step) (S T : State) (b c : List ℕ) (log : Log)
+    → outlook E left T c log ≡ whole_outlook B whole S b → left ≡ []
     → (E ≡ B) × (T ≡ after B whole S) × (log.so_far ≡ record { operations = length whole; misses = misses B whole S }) × (c ≡ over b 0 (outcomes B whole S))
-outlook_end B E left from whole S T b c log start e none f z y x =
-    let all : outlook E [] T c log ≡ outlook B whole S b start = sym (outlook_at E left [] T c log none) ∙ e ∙ outlook_at B from whole S b start f in
-    let done : log.so_far.operations + 0 ≡ start.so_far.operations + length whole = ap (λ o. o.operations) all in
-    let lost : log.so_far.misses + 0 ≡ start.so_far.misses + misses B whole S = ap (λ o. o.misses) all in (
+outlook_end B E left whole S T b c log e none =
+    let all : outlook E [] T c log ≡ whole_outlook B whole S b = sym (outlook_at E left [] T c log none) ∙ e in
+    let done : log.so_far.operations + 0 ≡ 0 + length whole = ap (λ o. o.operations) all in
+    let lost : log.so_far.misses + 0 ≡ 0 + misses B whole S = ap (λ o. o.misses) all in (
       ap (λ o. o.build) all,
       ap (λ o. o.ends) all,
       ap₂ told (omega arith) (omega arith),
-      sym (over_nil c log.outcomes) ∙ ap (λ o. o.buffer) all ∙ ap (λ (at : ℕ). over b at (outcomes B whole S)) x,
+      sym (over_nil c log.outcomes) ∙ ap (λ o. o.buffer) all,
     )
 
 -- The whole test as the code walks it: the words and bits are those that it was told.
@@ -104,18 +110,16 @@ whole_is N W n w xs {es} p q l e =
 
 -- A step comes next. The counts have room for it, and the buffer has where it is a check, as both had for all of them
 -- at the start.
-pub outlook_room : (B E : Build) (s : Step) (ss from whole : List Step) (S T : State) (b c : List ℕ) (log start : Log)
-    → outlook E (s ∷ ss) T c log ≡ outlook B from S b start → from ≡ whole
-    → start.so_far.operations ≡ 0 → start.so_far.misses ≡ 0 → start.outcomes ≡ 0
+pub outlook_room : (B E : Build) (s : Step) (ss whole : List Step) (S T : State) (b c : List ℕ) (log : Log)
+    → outlook E (s ∷ ss) T c log ≡ whole_outlook B whole S b
     → check_count whole ≤ length b → length c ≡ length b
     → (is_check s.operation ≡ true → log.outcomes < length c) × (log.so_far.operations < length whole) × (log.so_far.misses ≤ length whole)
-outlook_room B E s ss from whole S T b c log start e f z y x room size =
-    let same : log.outcomes + length (outcomes E (s ∷ ss) T) ≡ start.outcomes + length (outcomes B from S) = ap (λ o. o.filled) e in
-    let done : log.so_far.operations + suc (length ss) ≡ start.so_far.operations + length from = ap (λ o. o.operations) e in
-    let lost : log.so_far.misses + misses E (s ∷ ss) T ≡ start.so_far.misses + misses B from S = ap (λ o. o.misses) e in
-    let long : length from ≡ length whole = ap length f in (
+outlook_room B E s ss whole S T b c log e room size =
+    let same : log.outcomes + length (outcomes E (s ∷ ss) T) ≡ 0 + length (outcomes B whole S) = ap (λ o. o.filled) e in
+    let done : log.so_far.operations + suc (length ss) ≡ 0 + length whole = ap (λ o. o.operations) e in
+    let lost : log.so_far.misses + misses E (s ∷ ss) T ≡ 0 + misses B whole S = ap (λ o. o.misses) e in (
       λ t. let one : check_count (s ∷ ss) ≡ 1 + check_count ss = checks-cons s ss ∙ ap (λ (n : ℕ). n + check_count ss) (cond-true (is_check s.operation) 1 0 t) in
-          omega (arith, one_each E (s ∷ ss) T, one_each B from S, ap check_count f),
+          omega (arith, one_each E (s ∷ ss) T, one_each B whole S),
       omega arith,
-      omega (arith, misses_within B from S),
+      omega (arith, misses_within B whole S),
     )

@@ -6,7 +6,8 @@ use Rattle.cam.specs.declared.operation.Operation.TheVariants as operation
 use Rattle.march.specs.declared.step.Step.{Step}
 use Rattle.march.specs.declared.element.TestOperation.{TestOperation}
 use Rattle.march.specs.declared.element.TestOperation.TheVariants.{Write, Read, Compare, Erase}
-use Rattle.march.specs.Tests.{Element, up, down, columns, visits, schedule, stepped, missed, misses}
+use Rattle.march.specs.Building.{operations_of}
+use Rattle.march.specs.Tests.{Element, visits, schedule, stepped, missed, misses}
 
 -- a read or a compare
 abbrev pub is_check : Operation → Bool
@@ -51,9 +52,7 @@ checks_among os = count_by reads_or_compares os
 
 -- how many reads and compares a visit does
 abbrev pub checks_of : Element → ℕ
-checks_of (up os) = checks_among os
-checks_of (down os) = checks_among os
-checks_of (columns cs) = length cs
+checks_of e = checks_among (operations_of e)
 
 -- and how many all visits of an element do
 abbrev pub checks_in : ℕ → ℕ → Element → ℕ

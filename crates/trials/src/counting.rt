@@ -2,7 +2,7 @@
 ghost use Rattle.std.specs.Prelude.{◌≡◌, ◌≤◌, min};
 ghost use Rattle.march.specs.Tests.{meant, schedule};
 ghost use Rattle.march.specs.Table.{elements_of};
-ghost use Rattle.trials.specs.Outcomes.{is_check, check_count, checks_in, checks_of, checks_among};
+ghost use Rattle.trials.specs.Outcomes.{is_check, check_count, checks_in, checks_of};
 
 use cam::operation::Operation;
 use cam::size::Size;
@@ -19,31 +19,18 @@ pub(crate) fn is_check(operation: Operation) -> bool
     )
 }
 
-// How many operations read or compare.
-fn checks_among(operations: &[TestOperation]) -> usize
-    ensures reads_and_compares { result ≡ checks_among operations.now }
-{
-    operations
-        .iter()
-        .filter(|operation| {
-            matches!(
-                **operation,
-                TestOperation::Read(_) | TestOperation::Compare(_)
-            )
-        })
-        .count()
-}
-
 // How many reads and compares a visit of an element does.
 fn checks_of(element: &Element) -> u32
     ensures reads_and_compares { result ≡ checks_of (meant element.now) }
     ensures at_most_eight { result ≤ 8 }
 {
-    match element {
-        Element::Up(operations) => checks_among(operations.as_slice()) as u32,
-        Element::Down(operations) => checks_among(operations.as_slice()) as u32,
-        Element::Columns(comparisons) => comparisons.len() as u32,
-    }
+    let checks = element.operations().filter(|operation| {
+        matches!(
+            *operation,
+            TestOperation::Read(_) | TestOperation::Compare(_)
+        )
+    });
+    checks.count() as u32
 }
 
 // How many outcomes the visits of an element have.
@@ -51,7 +38,7 @@ fn outcomes_of(element: &Element, size: Size) -> u32
     ensures checks_of_each_visit { result ≡ checks_in size.words (min size.width 64) (meant element.now) }
     ensures at_most_eight_a_visit { result ≤ 524280 }
 {
-    checks_of(element) * element.visits(size.words, size.width) as u32
+    checks_of(element) * element.visits(size) as u32
 }
 
 // How many outcomes a trial of the test has on an array of this size: a read and a compare have one each. A width past

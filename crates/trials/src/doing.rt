@@ -10,6 +10,7 @@ ghost use Rattle.trials.specs.Trials.{steps_on, trial_of, logged, noted};
 use crate::counting::is_check;
 use crate::result::TrialResult;
 use cam::array::CamArray;
+use cam::size::size_of;
 use march::step::{Step, perform};
 use march::test::Test;
 
@@ -54,8 +55,7 @@ pub(crate) fn do_all<C: CamArray>(test: &Test, array: &mut C, buffer: &mut [u8])
     ensures state_after { C.state array.new ≡ after (C.build array.old) (steps_on (C.build array.old) (elements_of test.now)) (C.state array.old) }
     ensures build_stays { C.build array.new ≡ C.build array.old }
 {
-    let words = array.words();
-    let width = array.width();
+    let size = size_of(array);
     let mut log = Log {
         so_far: TrialResult {
             operations: 0,
@@ -64,11 +64,9 @@ pub(crate) fn do_all<C: CamArray>(test: &Test, array: &mut C, buffer: &mut [u8])
         outcomes: 0,
     };
     for element in test.elements() {
-        for visit in 0..element.visits(words, width) {
-            let mut operation = 0u8;
-            while let Some(step) = element.step(words, width, visit, operation) {
+        for visit in 0..element.visits(size) {
+            for step in element.steps(size, visit) {
                 log = do_step(array, step, buffer, log);
-                operation += 1;
             }
         }
     }

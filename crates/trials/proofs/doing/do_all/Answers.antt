@@ -1,102 +1,60 @@
-use Rattle.std.proofs.Common.{min, map, get_or, sym, refl, ◌∙◌, arith}
-use Rattle.march.specs.declared.element.Element.{Element}
+use Rattle.std.proofs.Common.{◌+◌, ◌++◌, min, map, drop, sym, ap, ◌∙◌, arith}
 use Rattle.march.specs.Tests.{meant}
-use Rattle.march.proofs.Lengths.{per_visit_few}
-use Rattle.mlt1.proofs.Lefts.{left_step, left_visit, left_element, left_end, operation_few}
-use Rattle.trials.proofs.Elements.{beyond, element_at, none_past, steps_few}
+use Rattle.mlt1.specs.Left.{left_in}
+use Rattle.trials.proofs.Elements.{visit_begins, element_ends, all_end, steps_few}
 use Rattle.trials.proofs.Outlooks.{outlook_step, outlook_at, outlook_end, outlook_room, whole_is}
 use Rattle.trials.proofs.doing.do_all.Goals as goal
+
+pub loop-element-init : goal.loop-element-init
+loop-element-init g c =
+    let size = c.size_of-size in
+    outlook_at _ _ _ _ _ _
+    (whole_is _ _ size.result.words size.result.width _ size.ensures.words_of_the_array size.ensures.bits_of_the_array (g.C.CamArray.formed c.args.array.now).few_bits c.elements-element-items.ensures.all_elements)
+
+pub loop-step-init : goal.loop-step-init
+loop-step-init g c =
+    let size = c.size_of-size.result in
+    sym (outlook_at _ _ _ _ _ _
+    (visit_begins size.words (min size.width 64) c.elements-element-items.result.now c.loop-element.element-index c.loop-visit.visit _ _ _
+    c.loop-element-test.true c.loop-visit-test.true c.visits-visit-end.ensures.visit_count c.steps-step-items.ensures.each_step_of_the_visit c.into_iter-step-iterator.ensures.into_iter_gives))
+    ∙ c.loop-visit.invariant
 
 pub do_step-log-requires : goal.do_step-log-requires
 do_step-log-requires g c =
     let m = g.C.CamArray in
     let x = c.args.array.now in
-    let n = c.words-words.result in
-    let w = min c.width-width.result 64 in
-    let i = c.loop-element.element-index in
-    let rs = c.elements-element-items.result.now in
-    let r : Element = get_or rs i beyond in
-    let at = element_at rs (map meant rs) i beyond refl c.loop-element-test.true in
-    let found = c.in-Some.ensures.step_of_visit in
+    let size = c.size_of-size.result in
+    let later = left_in size.words (min size.width 64) (drop c.loop-element.element-index (map meant c.elements-element-items.result.now)) (c.loop-visit.visit + 1) 0 in
     let few = steps_few c.args.test.now (m.build x).words (m.build x).width (m.formed x).few_words (m.formed x).few_bits in
-    let fits = outlook_room _ _ _ _ _ _ _ _ _ _ _ _
-    (sym (outlook_at _ _ _ _ _ _ (left_step n w (map meant rs) i (meant r) c.loop-visit.visit c.loop-step.operation at _ found)) ∙ c.loop-step.invariant ∙ c.loop-visit.invariant ∙ c.loop-element.invariant)
-    (whole_is _ _ n c.width-width.result _ c.words-words.ensures.word_count c.width-width.ensures.bits_of_word (m.formed x).few_bits c.elements-element-items.ensures.all_elements)
-    refl refl refl c.requires.room (omega arith) in
+    let fits = outlook_room _ _ _ _ _ _ _ _ _ _
+    (sym (outlook_at _ _ _ _ _ _ (ap (λ xs. xs ++ later) c.in-Some.ensures.steps)) ∙ c.loop-step.invariant) c.requires.room (omega arith) in
     record { room = fits.0; operations_fit = omega (arith, fits.1, few); misses_fit = omega (arith, fits.2, few) }
-
-pub overflow_add-operation : goal.overflow_add-operation
-overflow_add-operation g c =
-    let n = c.words-words.result in
-    let w = min c.width-width.result 64 in
-    let r : Element = get_or c.elements-element-items.result.now c.loop-element.element-index beyond in
-    omega (arith, operation_few n w (meant r) c.loop-visit.visit c.loop-step.operation _ c.in-Some.ensures.step_of_visit, per_visit_few r)
-
-pub loop-step-smaller : goal.loop-step-smaller
-loop-step-smaller g c =
-    let n = c.words-words.result in
-    let w = min c.width-width.result 64 in
-    let r : Element = get_or c.elements-element-items.result.now c.loop-element.element-index beyond in
-    omega (arith, operation_few n w (meant r) c.loop-visit.visit c.loop-step.operation _ c.in-Some.ensures.step_of_visit, per_visit_few r)
 
 pub loop-step-preserved : goal.loop-step-preserved
 loop-step-preserved g c =
-    let m = g.C.CamArray in
-    let x = c.args.array.now in
-    let n = c.words-words.result in
-    let w = min c.width-width.result 64 in
-    let i = c.loop-element.element-index in
-    let rs = c.elements-element-items.result.now in
-    let r : Element = get_or rs i beyond in
-    let at = element_at rs (map meant rs) i beyond refl c.loop-element-test.true in
-    let found = c.in-Some.ensures.step_of_visit in
+    let size = c.size_of-size.result in
+    let later = left_in size.words (min size.width 64) (drop c.loop-element.element-index (map meant c.elements-element-items.result.now)) (c.loop-visit.visit + 1) 0 in
+    let here = sym (outlook_at _ _ _ _ _ _ (ap (λ xs. xs ++ later) c.in-Some.ensures.steps)) ∙ c.loop-step.invariant in
+    let fits = outlook_room _ _ _ _ _ _ _ _ _ _ here c.requires.room (omega arith) in
     let told = c.do_step-log.ensures in
-    let here = sym (outlook_at _ _ _ _ _ _ (left_step n w (map meant rs) i (meant r) c.loop-visit.visit c.loop-step.operation at _ found)) ∙ c.loop-step.invariant in
-    let fits = outlook_room _ _ _ _ _ _ _ _ _ _ _ _
-    (here ∙ c.loop-visit.invariant ∙ c.loop-element.invariant)
-    (whole_is _ _ n c.width-width.result _ c.words-words.ensures.word_count c.width-width.ensures.bits_of_word (m.formed x).few_bits c.elements-element-items.ensures.all_elements)
-    refl refl refl c.requires.room (omega arith) in
-    outlook_step _ _ _ _ _ _ c.loop-step.buffer _ c.loop-step.log _
-    told.build_stays told.state_after told.outcome_noted told.counted_once fits.0
-    ∙ here
+    outlook_step _ _ _ _ _ _ c.loop-step.buffer _ c.loop-step.log _ told.build_stays told.state_after told.outcome_noted told.counted_once fits.0 ∙ here
 
 pub loop-visit-preserved : goal.loop-visit-preserved
 loop-visit-preserved g c =
-    let n = c.words-words.result in
-    let w = min c.width-width.result 64 in
-    let i = c.loop-element.element-index in
-    let rs = c.elements-element-items.result.now in
-    let r : Element = get_or rs i beyond in
-    let at = element_at rs (map meant rs) i beyond refl c.loop-element-test.true in
-    let none = c.in_default.ensures.step_of_visit in
-    sym (outlook_at _ _ _ _ _ _ (left_visit n w (map meant rs) i (meant r) c.loop-visit.visit c.loop-step.operation at none (omega (arith, c.loop-visit-test.true, c.visits-visit-end.ensures.visit_count))))
-    ∙ c.loop-step.invariant ∙ c.loop-visit.invariant
+    let size = c.size_of-size.result in
+    let later = left_in size.words (min size.width 64) (drop c.loop-element.element-index (map meant c.elements-element-items.result.now)) (c.loop-visit.visit + 1) 0 in
+    sym (outlook_at _ _ _ _ _ _ (ap (λ xs. xs ++ later) c.in-None.ensures.steps.0)) ∙ c.loop-step.invariant
 
 pub loop-element-preserved : goal.loop-element-preserved
 loop-element-preserved g c =
-    let n = c.words-words.result in
-    let w = min c.width-width.result 64 in
-    let i = c.loop-element.element-index in
-    let rs = c.elements-element-items.result.now in
-    let r : Element = get_or rs i beyond in
-    let at = element_at rs (map meant rs) i beyond refl c.loop-element-test.true in
-    sym (outlook_at _ _ _ _ _ _ (left_element n w (map meant rs) i (meant r) c.loop-visit.visit 0 at (omega (arith, c.loop-visit-test.false, c.visits-visit-end.ensures.visit_count))))
-    ∙ c.loop-visit.invariant ∙ c.loop-element.invariant
+    let size = c.size_of-size.result in
+    sym (outlook_at _ _ _ _ _ _
+    (element_ends size.words (min size.width 64) c.elements-element-items.result.now c.loop-element.element-index c.loop-visit.visit _ c.loop-element-test.true c.loop-visit-test.false c.visits-visit-end.ensures.visit_count))
+    ∙ c.loop-visit.invariant
 
 pub returns : goal.returns
 returns g c =
-    let m = g.C.CamArray in
-    let x = c.args.array.now in
-    let n = c.words-words.result in
-    let w = min c.width-width.result 64 in
-    let rs = c.elements-element-items.result.now in
-    let all = outlook_end _ _ _ _ _ _ _ _ _ _ _ c.loop-element.invariant
-    (left_end n w (map meant rs) c.loop-element.element-index 0 0 (none_past rs (map meant rs) _ refl c.loop-element-test.false))
-    (whole_is _ _ n c.width-width.result _ c.words-words.ensures.word_count c.width-width.ensures.bits_of_word (m.formed x).few_bits c.elements-element-items.ensures.all_elements)
-    refl refl refl in
-    record {
-      operations_and_misses = all.2;
-      outcome_bytes = all.3;
-      state_after = all.1;
-      build_stays = all.0;
-    }
+    let size = c.size_of-size.result in
+    let all = outlook_end _ _ _ _ _ _ _ _ _ c.loop-element.invariant
+    (all_end size.words (min size.width 64) c.elements-element-items.result.now c.loop-element.element-index c.loop-element-test.false) in
+    record { operations_and_misses = all.2; outcome_bytes = all.3; state_after = all.1; build_stays = all.0 }
