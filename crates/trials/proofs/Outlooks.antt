@@ -86,6 +86,12 @@ nothing_done = record { so_far = record { operations = 0; misses = 0 }; outcomes
 abbrev pub whole_outlook : Build → List Step → State → List ℕ → Outlook
 whole_outlook B ss S b = outlook B ss S b nothing_done
 
+-- a default log says that nothing is done
+pub started : (B : Build) (ss : List Step) (S : State) (b : List ℕ) (log : Log)
+    → ((log.so_far.operations ≡ 0) × (log.so_far.misses ≡ 0)) × (log.outcomes ≡ 0) → outlook B ss S b log ≡ whole_outlook B ss S b
+started B ss S b log e =
+    ap {A = Log} (outlook B ss S b) (λ d. record { so_far = record { operations = e.0.0 d; misses = e.0.1 d }; outcomes = e.1 d })
+
 abbrev told : ℕ → ℕ → TrialResult
 told operations misses = record { operations = operations; misses = misses }
 

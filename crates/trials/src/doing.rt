@@ -16,7 +16,7 @@ use march::test::Test;
 
 // What a trial has done so far, and how many outcomes are written: the place of the next one in the buffer. It is a number,
 // since a proof knows nothing of a buffer's bytes after an iterator wrote them.
-#[derive(Clone, Copy)]
+#[derive(Clone, Copy, Default)]
 pub(crate) struct Log {
     pub(crate) so_far: TrialResult,
     pub(crate) outcomes: usize,
@@ -56,13 +56,7 @@ pub(crate) fn do_all<C: CamArray>(test: &Test, array: &mut C, buffer: &mut [u8])
     ensures build_stays { C.build array.new ≡ C.build array.old }
 {
     let size = size_of(array);
-    let mut log = Log {
-        so_far: TrialResult {
-            operations: 0,
-            misses: 0,
-        },
-        outcomes: 0,
-    };
+    let mut log = Log::default();
     for element in test.elements() {
         for visit in 0..element.visits(size) {
             for step in element.steps(size, visit) {

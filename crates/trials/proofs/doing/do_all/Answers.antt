@@ -2,13 +2,14 @@ use Rattle.std.proofs.Common.{◌+◌, ◌++◌, min, map, drop, sym, ap, ◌∙
 use Rattle.march.specs.Tests.{meant}
 use Rattle.mlt1.specs.Left.{left_in}
 use Rattle.trials.proofs.Elements.{visit_begins, element_ends, all_end, steps_few}
-use Rattle.trials.proofs.Outlooks.{outlook_step, outlook_at, outlook_end, outlook_room, whole_is}
+use Rattle.trials.proofs.Outlooks.{started, outlook_step, outlook_at, outlook_end, outlook_room, whole_is}
 use Rattle.trials.proofs.doing.do_all.Goals as goal
 
 pub loop-element-init : goal.loop-element-init
 loop-element-init g c =
     let size = c.size_of-size in
-    outlook_at _ _ _ _ _ _
+    started _ _ _ _ c.default-log.result c.default-log.ensures
+    ∙ outlook_at _ _ _ _ _ _
     (whole_is _ _ size.result.words size.result.width _ size.ensures.words_of_the_array size.ensures.bits_of_the_array (g.C.CamArray.formed c.args.array.now).few_bits c.elements-element-items.ensures.all_elements)
 
 pub loop-step-init : goal.loop-step-init
