@@ -1,5 +1,5 @@
 -- Planting faults.
-use Rattle.std.proofs.Common.{◌≡◌, ℕ, ◌+◌, ◌<◌, List, length, get_or, drop, add-one, drop-cons, Bool, true, false, not, ◌&&◌, ◌||◌, eqb, [], ◌∷◌, Ok, Err, Result, sym, refl, ap, ◌∙◌, ap₂, MatchResult}
+use Rattle.std.proofs.Common.{◌≡◌, ℕ, ◌+◌, ◌<◌, List, get_or, drop, add-one, drop-cons, Bool, true, false, not, ◌&&◌, ◌||◌, eqb, [], ◌∷◌, Ok, Err, Result, sym, refl, ap, ◌∙◌, ap₂, MatchResult}
 use mathlib.Core.Path.{fun_ext}
 use Rattle.std.proofs.lemmas.Bool.{true≢false, eqb-true, and_parts}
 use Rattle.cam.specs.Model.{Build}

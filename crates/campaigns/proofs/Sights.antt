@@ -31,11 +31,10 @@ pub sight_at : (B : Build) (xs ys : List Step) (S : State) → xs ≡ ys → sig
 sight_at B xs ys S e = ap (λ zs. sight B zs S) e
 
 -- The next step misses: there is a miss, and the test ends after it.
-pub sight_miss : (B E : Build) (s : Step) (ss from whole : List Step) (S T : State)
-    → sight E (s ∷ ss) T ≡ sight B from S → from ≡ whole → true ≡ missing E s T
+pub sight_miss : (B E : Build) (s : Step) (ss whole : List Step) (S T : State)
+    → sight E (s ∷ ss) T ≡ sight B whole S → true ≡ missing E s T
     → (E ≡ B) × (stepped E s T ≡ after B (until_miss B whole S) S) × (true ≡ ltb 0 (misses B whole S))
-sight_miss B E s ss from whole S T e f met =
-    let all : sight E (s ∷ ss) T ≡ sight B whole S = e ∙ sight_at B from whole S f in
+sight_miss B E s ss whole S T all met =
     let one : missed E s T ≡ 1 = cond-true (missing E s T) 1 0 (sym met) in
     let some : missed E s T + misses E ss (stepped E s T) ≡ misses B whole S = ap (λ v. v.misses) all in (
       ap (λ v. v.build) all,
@@ -44,9 +43,9 @@ sight_miss B E s ss from whole S T e f met =
     )
 
 -- Nothing is left and nothing has missed.
-pub sight_end : (B E : Build) (left from whole : List Step) (S T : State)
-    → sight E left T ≡ sight B from S → left ≡ [] → from ≡ whole
+pub sight_end : (B E : Build) (left whole : List Step) (S T : State)
+    → sight E left T ≡ sight B whole S → left ≡ []
     → (E ≡ B) × (T ≡ after B (until_miss B whole S) S) × (false ≡ ltb 0 (misses B whole S))
-sight_end B E left from whole S T e none f =
-    let all : sight E [] T ≡ sight B whole S = sym (sight_at E left [] T none) ∙ e ∙ sight_at B from whole S f in
+sight_end B E left whole S T e none =
+    let all : sight E [] T ≡ sight B whole S = sym (sight_at E left [] T none) ∙ e in
     (ap (λ v. v.build) all, ap (λ v. v.ends) all, ap (λ v. ltb 0 v.misses) all)

@@ -1,5 +1,5 @@
 -- Campaigns: a test is done with one fault at each place in turn, and its detections are counted.
-use Rattle.std.specs.Prelude.{◌≡◌, ℕ, ◌+◌, ◌*◌, ◌<◌, ◌≤◌, Bool, cond, ◌&&◌, List, [], ◌∷◌, length, nat_le, nat_lt, slice_index_or, count_by}
+use Rattle.std.specs.Prelude.{◌≡◌, ℕ, ◌*◌, ◌<◌, ◌≤◌, Bool, cond, ◌&&◌, List, [], ◌∷◌, length, nat_le, nat_lt, slice_index_or, count_by}
 use Rattle.cam.specs.Machine.{upward}
 use Rattle.cam.specs.Model.{Build, State}
 use Rattle.cam.specs.Defects.{flawless, cleared}

@@ -34,7 +34,7 @@ impl CampaignRecords {
                 };
                 let (detected, back) = own.examine(test, fault, cell);
                 own = back;
-                count += detected as u32;
+                count += u32::from(detected);
             }
         }
         (count, own)

@@ -6,6 +6,7 @@ ghost use Rattle.trials.specs.Trials.{steps_on};
 ghost use Rattle.campaigns.specs.Campaigns.{until_miss};
 
 use cam::array::CamArray;
+use cam::size::size_of;
 use march::step::perform;
 use march::test::Test;
 
@@ -15,18 +16,15 @@ pub fn detects<C: CamArray>(test: &Test, array: &mut C) -> bool
     ensures left_at_the_first_miss { C.state array.new ≡ after (C.build array.old) (until_miss (C.build array.old) (steps_on (C.build array.old) (elements_of test.now)) (C.state array.old)) (C.state array.old) }
     ensures build_stays { C.build array.new ≡ C.build array.old }
 {
-    let words = array.words();
-    let width = array.width();
+    let size = size_of(array);
     let mut missed = false;
     'elements: for element in test.elements() {
-        for visit in 0..element.visits(words, width) {
-            let mut operation = 0u8;
-            while let Some(step) = element.step(words, width, visit, operation) {
+        for visit in 0..element.visits(size) {
+            for step in element.steps(size, visit) {
                 if perform(array, step) {
                     missed = true;
                     break 'elements;
                 }
-                operation += 1;
             }
         }
     }

@@ -6,7 +6,7 @@ use cam::defect::{NamedFault, StorageDefect};
 
 // A fault that a campaign plants: a named fault of the comparison, whose pairs are planted together in one cell, a
 // storage defect of a cell, or a stuck mark of a word.
-#[derive(Clone, Copy)]
+#[derive(Clone, Copy, PartialEq, Eq)]
 pub enum CampaignFault {
     Comparison(NamedFault),
     Storage(StorageDefect),
@@ -19,8 +19,7 @@ impl CampaignFault {
         ensures cells_or_mark { result ≡ places_in self width }
     {
         match self {
-            CampaignFault::Comparison(_) => width,
-            CampaignFault::Storage(_) => width,
+            CampaignFault::Comparison(_) | CampaignFault::Storage(_) => width,
             CampaignFault::StuckMark => 1,
         }
     }

@@ -27,7 +27,7 @@ impl CampaignRecords {
         ensures these_records { MatchResult result (λ own. own.records ≡ records) (λ e. e.records ≡ records) }
         ensures this_size { IfOk result (λ own. own.size ≡ size) }
     {
-        let reason = if size.words < 1 || size.words > 16 || size.width < 1 || size.width > 16 {
+        let reason = if !(1..=16).contains(&size.words) || !(1..=16).contains(&size.width) {
             Reason::CampaignTooLarge
         } else if records.len() < size.words as usize {
             Reason::BufferTooShort

@@ -1,4 +1,4 @@
-use Rattle.std.proofs.Common.{◌≡◌, Bool, true, false, get_or, sym, refl, ap, ◌∙◌, arith, drop_of_length-le}
+use Rattle.std.proofs.Common.{◌≡◌, Bool, true, false, get_or, sym, refl, ap, ◌∙◌, drop_of_length-le}
 use Rattle.cam.specs.Defects.{in_set}
 use Rattle.planes.specs.Planes.{build_of, state_of}
 use Rattle.campaigns.proofs.Plantings.{pair, four_pairs, pair_planted, pair_turn, not_planted, four_planted, state_kept}

@@ -1,6 +1,6 @@
 use Rattle.std.proofs.Common.{◌≡◌, ℕ, ◌≤◌, Bool, true, false, cond, refl, ap, ◌∙◌, arith}
-use mir.Val.{bool_byte}
 use Rattle.cam.specs.declared.size.Size.{Size}
+use Rattle.std.specs.Int.{from_bool}
 use Rattle.std.specs.List.{count_by}
 use Rattle.march.specs.Table.{elements_of}
 use Rattle.campaigns.specs.Faults.{places_in}
@@ -8,7 +8,7 @@ use Rattle.campaigns.specs.Campaigns.{Place, place_at, detected_at}
 use Rattle.campaigns.proofs.Counts.{some_of, column_more, word_more, places_few}
 use Rattle.campaigns.proofs.records.CampaignRecords.count_detected.Goals as goal
 
-byte_is : (b : Bool) → bool_byte b ≡ cond b 1 0
+byte_is : (b : Bool) → from_bool b ≡ cond b 1 0
 byte_is true = refl
 byte_is false = refl
 
@@ -26,7 +26,7 @@ loop-column-preserved c =
     let told = c.examine-detected.ensures in
     let here : c.examine-detected.result.0 ≡ det (place_at a j) =
     told.detected_at_place ∙ ap (λ (s : Size). detected_at (elements_of c.args.test.now) c.args.fault s.words s.width (place_at a j)) inv.2 in
-    let one : bool_byte c.examine-detected.result.0 ≡ cond (det (place_at a j)) 1 0 = byte_is c.examine-detected.result.0 ∙ ap (λ (b : Bool). cond {A = ℕ} b 1 0) here in (
+    let one : c.from-count.result ≡ cond (det (place_at a j)) 1 0 = c.from-count.ensures ∙ ap from_bool here ∙ byte_is (det (place_at a j)) in (
       omega (arith, one, inv.0, column_more det a j),
       omega (arith, one, few (det (place_at a j)), inv.1),
       told.size_stays ∙ inv.2,

@@ -3,9 +3,9 @@ use Rattle.std.proofs.lemmas.List.{take_all, take_more_set, map_more}
 use Rattle.cam.specs.declared.size.Size.{Size}
 use Rattle.march.specs.Table.{elements_of}
 use Rattle.campaigns.specs.declared.faults.CampaignFault.{CampaignFault}
-use Rattle.campaigns.specs.declared.faults.CampaignFault.TheVariants.{StuckMark}
+use Rattle.campaigns.specs.declared.faults.CampaignFault.TheVariants.{Comparison}
+use Rattle.cam.specs.declared.defect.NamedFault.TheVariants.{Smf}
 use Rattle.campaigns.specs.declared.row.Row.{Row}
-use Rattle.campaigns.specs.Faults.{campaign_faults}
 use Rattle.campaigns.specs.Campaigns.{row_of}
 use Rattle.campaigns.proofs.records.CampaignRecords.fill.Goals as goal
 
@@ -19,7 +19,7 @@ loop-number-preserved c =
     let told = c.tell-back.ensures in
     let many : length faults ≡ 15 = ap length c.faults_of_rows.ensures.in_order in (
       take_more_set rows i _ (omega arith)
-          ∙ ap₂ (λ xs x. xs ++ x ∷ []) inv.0 (told.row_of_fault ∙ ap (λ s. row s (get_or faults i StuckMark)) inv.2)
+          ∙ ap₂ (λ xs x. xs ++ x ∷ []) inv.0 (told.row_of_fault ∙ ap (λ s. row s (get_or faults i (Comparison Smf))) inv.2)
           ∙ sym (map_more (row c.args.self.size) faults i _ (omega arith)),
       length-set rows i _ ∙ inv.1,
       told.size_stays ∙ inv.2,
