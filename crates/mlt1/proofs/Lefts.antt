@@ -1,14 +1,17 @@
 -- What is left of a list of elements, as a run moves through it.
-use Rattle.std.proofs.Common.{◌≡◌, ℕ, zero, suc, ◌+◌, ◌-◌, ◌<◌, ◌≤◌, true, ltb, List, [], ◌∷◌, ◌++◌, drop, is_some, Some, None, sym, refl, ap, ◌∙◌, append_assoc, append-nil, add-one, arith}
+use Rattle.std.proofs.Common.{◌≡◌, ℕ, zero, suc, ◌+◌, ◌-◌, ◌<◌, ◌≤◌, true, ltb, List, [], ◌∷◌, ◌++◌, map, length, get_or, drop, is_some, Some, None, sym, refl, ap, ap₂, ◌∙◌, append_assoc, append-nil, add-one, arith}
+use Rattle.std.specs.Option.{option_map}
 use Rattle.std.specs.List.{slice_get}
-use Rattle.std.proofs.lemmas.Option.{slice_get_within}
+use Rattle.std.proofs.lemmas.Option.{slice_get_within, slice_get-map, slice_get-get_or, slice_get_past}
 use Rattle.std.proofs.lemmas.Bool.{true≢false, lt-ltb, le-ltb, ltb-true, ltb-false, cond-true, cond-false}
 use Rattle.cam.proofs.Below.{split}
 use Rattle.march.specs.declared.step.Step.{Step}
 use Rattle.cam.specs.Machine.{upward}
-use Rattle.march.specs.Tests.{Element, visits, visit, steps_in_visit, step_at, schedule}
+use Rattle.march.specs.declared.element.Element.{Element as ElementRecord}
+use Rattle.march.specs.Tests.{Element, meant, visits, visit, steps_in_visit, step_at, schedule}
 use Rattle.march.proofs.Going.{none_left, one_left}
 use Rattle.march.proofs.Lengths.{per_visit, visit_length}
+use Rattle.mlt1.specs.Mlt1.{mlt1}
 use Rattle.mlt1.specs.Left.{from_on, rest_of, left_in}
 
 -- visits one after the other, split at any of them
@@ -108,3 +111,12 @@ module _ (N W : ℕ) (es : List Element) (i : ℕ) (e : Element) (v o : ℕ) (at
 
 pub left_end : (N W : ℕ) (es : List Element) (i v o : ℕ) → None ≡ slice_get es i → left_in N W (drop i es) v o ≡ []
 left_end N W es i v o q = ap (λ xs. left_in N W xs v o) (none_left es i (sym q))
+
+-- an element of a table that has MLT-1, and a place past its last one
+pub in_table : (table : List ElementRecord) (i k : ℕ) (r : ElementRecord) → map meant table ≡ mlt1 → k ≡ i → k < length table → r ≡ get_or table k r → Some (meant r) ≡ slice_get mlt1 i
+in_table table i k r e same l is =
+    ap (λ r. Some (meant r)) is ∙ ap (option_map meant) (sym (slice_get-get_or table k r l)) ∙ sym (slice_get-map meant table k) ∙ ap₂ slice_get e same
+
+pub past_table : (table : List ElementRecord) (i k : ℕ) → map meant table ≡ mlt1 → k ≡ i → length table ≤ k → None ≡ slice_get mlt1 i
+past_table table i k e same l =
+    ap (option_map meant) (sym (slice_get_past table k l)) ∙ sym (slice_get-map meant table k) ∙ ap₂ slice_get e same

@@ -1,13 +1,15 @@
 // A run of MLT-1 that goes on from where it stands.
-ghost use Rattle.std.specs.Prelude.{◌≡◌, ℕ, ◌+◌, ◌<◌, min, [], length, if◌then◌else◌, nat_lt};
+ghost use Rattle.std.specs.Prelude.{◌≡◌, ℕ, ◌+◌, ◌<◌, min, [], map, length, if◌then◌else◌, nat_lt};
 ghost use Rattle.cam.specs.Model.{tally_cap};
-ghost use Rattle.march.specs.Tests.{schedule};
+ghost use Rattle.march.specs.Tests.{schedule, meant};
 ghost use Rattle.mlt1.specs.Mlt1.{mlt1};
 ghost use Rattle.mlt1.specs.Left.{left, at_start, Went};
 
 use crate::state::RunState;
+use crate::table::elements;
 use cam::array::CamArray;
 use cam::size::size_of;
+use march::element::Element;
 use march::step::perform;
 
 impl RunState {
@@ -48,7 +50,17 @@ impl RunState {
         ensures next_step_done { Went (C.build array.old) (if result then 1 else 0) self.old self.new (C.state array.old) (C.state array.new) }
         ensures build_stays { C.build array.new ≡ C.build array.old }
     {
-        let Some(step) = self.next_step(size_of(array)) else {
+        self.advance_in(&elements(), array)
+    }
+
+    // The same, with the table of MLT-1 at hand.
+    fn advance_in<C: CamArray>(&mut self, table: &[Element; 7], array: &mut C) -> bool
+        requires table_of_mlt1 { map meant table.now ≡ mlt1 }
+        ensures unless_at_end { result ≡ nat_lt 0 (length (left (C.build array.old).words (C.build array.old).width self.old)) }
+        ensures next_step_done { Went (C.build array.old) (if result then 1 else 0) self.old self.new (C.state array.old) (C.state array.new) }
+        ensures build_stays { C.build array.new ≡ C.build array.old }
+    {
+        let Some(step) = self.next_step(table, size_of(array)) else {
             return false;
         };
         let missed = perform(array, step);
@@ -63,8 +75,9 @@ impl RunState {
         ensures next_steps_done { Went (C.build array.old) result self.old self.new (C.state array.old) (C.state array.new) }
         ensures build_stays { C.build array.new ≡ C.build array.old }
     {
+        let table = elements();
         for done in 0..most {
-            if !self.advance(array) {
+            if !self.advance_in(&table, array) {
                 return done;
             }
         }

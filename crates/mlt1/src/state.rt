@@ -1,9 +1,11 @@
 // Where a run of MLT-1 stands.
-ghost use Rattle.std.specs.Prelude.{◌≡◌, ℕ, ◌+◌, ◌<◌, min, ◌∷◌, MatchOption};
+ghost use Rattle.std.specs.Prelude.{◌≡◌, ℕ, ◌+◌, ◌<◌, min, ◌∷◌, map, MatchOption};
+ghost use Rattle.march.specs.Tests.{meant};
+ghost use Rattle.mlt1.specs.Mlt1.{mlt1};
 ghost use Rattle.mlt1.specs.Left.{left, Next, passed};
 
-use crate::table::element;
 use cam::size::Size;
+use march::element::Element;
 use march::step::Step;
 
 // The element, the visit in it and the operation in the visit, each counted from 0, that come next; how many
@@ -19,15 +21,16 @@ pub struct RunState {
 }
 
 impl RunState {
-    // The step that comes next, if any is left. The state moves on past visits whose operations are done and elements
-    // whose visits are done; what is left stays the same.
-    pub(crate) fn next_step(&mut self, size: Size) -> Option<Step>
+    // The step that comes next, if any is left, of a table that has MLT-1. The state moves on past visits whose
+    // operations are done and elements whose visits are done; what is left stays the same.
+    pub(crate) fn next_step(&mut self, table: &[Element; 7], size: Size) -> Option<Step>
+        requires table_of_mlt1 { map meant table.now ≡ mlt1 }
         ensures what_is_left_stays { left size.words (min size.width 64) self.new ≡ left size.words (min size.width 64) self.old }
         ensures first_that_is_left { Next size.words (min size.width 64) self.new result }
         ensures place_stays { self.new.place ≡ self.old.place }
         ensures misses_stay { self.new.misses ≡ self.old.misses }
     {
-        while let Some(element) = element(self.element) {
+        while let Some(element) = table.get(usize::from(self.element)) {
             if let Some(step) = element.step(size, self.visit, self.operation) {
                 return Some(step);
             }

@@ -7,14 +7,14 @@ loop-done-init g c = (refl, went_none _ c.args.self.now _)
 
 pub loop-done-preserved : goal.loop-done-preserved
 loop-done-preserved g c =
-    let told = c.if-not-advance.ensures in (
+    let told = c.if-not-advance_in.ensures in (
       told.build_stays ∙ c.loop-done.invariant.0,
       went_then _ _ c.loop-done.done 1 _ _ _ _ _ _ c.loop-done.invariant.0 c.loop-done.invariant.1 told.next_step_done,
     )
 
-pub returns-then-not-advance : goal.returns-then-not-advance
-returns-then-not-advance g c =
-    let told = c.if-not-advance.ensures in
+pub returns-then-not-advance_in : goal.returns-then-not-advance_in
+returns-then-not-advance_in g c =
+    let told = c.if-not-advance_in.ensures in
     let done = went_stop _ _ c.loop-done.done _ _ _ _ _ _ c.loop-done.invariant.0 c.loop-done.invariant.1 told.next_step_done in
     record {
       most_or_all_left = went_all _ _ c.loop-done.done c.args.most _ _ _ _ c.loop-done.invariant.0 c.loop-done.invariant.1 (omega arith) told.unless_at_end;
