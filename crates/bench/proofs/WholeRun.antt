@@ -1,5 +1,5 @@
 -- A whole run on a bench: every step of the schedule is done, and the close is granted.
-use Rattle.std.proofs.Common.{◌≡◌, ℕ, ◌+◌, ◌*◌, ◌≤◌, min, leb, true, is_some, is_none, eqb, ◌↔◌, List, length, None, Ok, Err, Result, sym, refl, ap, ◌∙◌, subst, ap₂, ⊎_elim, arith, MatchResult}
+use Rattle.std.proofs.Common.{◌≡◌, ℕ, ◌+◌, ◌*◌, ◌≤◌, min, leb, true, is_some, is_none, eqb, ◌↔◌, List, length, None, Ok, Err, Result, sym, refl, ap, ◌∙◌, subst, ap₂, ⊎_elim, arith, IfOk, OnOk, MatchResult}
 use Rattle.std.proofs.lemmas.Bool.{eq-eqb, le-leb, cond-true, and_from}
 use Rattle.std.proofs.lemmas.Bool.Decides.{nat_tests as tells}
 use Rattle.cam.specs.declared.fault.Fault.{Fault}
@@ -22,12 +22,6 @@ use Rattle.bench.specs.Judging.{judge_questions}
 use Rattle.bench.proofs.Ruling.{found_cases}
 
 -- a call whose questions are all answered yes is granted
-pub granted_of : {X : Type 0} (P : X → Type 0) (Q : Fault → Type 0) (qs : List Question) (r : Result X Fault)
-    → first_no qs ≡ 0 → Asks qs r → MatchResult r P Q → (x : X) × (r ≡ Ok x) × P x
-granted_of P Q qs (Ok x) z a c = (x, refl, c)
-granted_of P Q qs (Err f) z a c = absurd (refused_not_0 (first_no qs) f a z)
-
--- the same of a call that hands back more than a refusal
 pub granted_in : {X E : Type 0} (fault : E → Fault) (qs : List Question) (r : Result X E) → first_no qs ≡ 0 → AsksIn fault qs r → (x : X) × (r ≡ Ok x)
 granted_in fault qs (Ok x) z a = (x, refl)
 granted_in fault qs (Err e) z a = absurd (refused_not_0 (first_no qs) (fault e) a z)
@@ -50,30 +44,31 @@ pub record AllDone (B : Build) (S : State) (b : Books) (number : ℕ) (E : Build
   pub asked : first_no (close_questions E c number) ≡ 0
   pub closes : closed c ≡ ran_whole (found (run_in_hand c).misses) b
 
-pub all_done : (B : Build) (S : State) (b : Books) (C E : Build) (R T : State) (s c : Books) (number k : ℕ) (r : Result ℕ Fault) (P Q O : Fault → Type 0)
+pub all_done : (B : Build) (S : State) (b : Books) (C E : Build) (R T : State) (s c : Books) (number k : ℕ) (r : Result ℕ Fault)
     → WellFormed B S → C ≡ B → R ≡ S → s ≡ started b → number ≡ s.starts → k ≡ run_length B
     → Asks (step_questions s number) r
-    → MatchResult r (λ n. n ≡ min k (length (left C.words C.width (run_in_hand s)))) P
-    → MatchResult r (λ n. Went C n (run_in_hand s) (run_in_hand c) R T) Q
-    → MatchResult r (λ _. c ≡ with_run (run_in_hand c) s) O
+    → IfOk r (λ n. n ≡ min k (length (left C.words C.width (run_in_hand s))))
+    → IfOk r (λ n. Went C n (run_in_hand s) (run_in_hand c) R T)
+    → OnOk r (c ≡ with_run (run_in_hand c) s)
     → E ≡ C → AllDone B S b number E T c
-all_done B S b C E R T s c number k r P Q O formed e t s-is n-is k-is asks most went other f =
+all_done B S b C E R T s c number k r formed e t s-is n-is k-is asks most went other f =
     let on : is_some s.run ≡ true = ap (λ (s : Books). is_some s.run) s-is in
     let fresh : run_in_hand s ≡ at_start = ap run_in_hand s-is in
     let granted : first_no (step_questions s number) ≡ 0 = cond-true _ 0 55 (and_from (is_some s.run) (eqb number s.starts) on (eq-eqb number s.starts n-is)) in
-    let m = granted_of (λ n. n ≡ min k (length (left C.words C.width (run_in_hand s)))) P (step_questions s number) r granted asks most in
-    let w = granted_of (λ n. Went C n (run_in_hand s) (run_in_hand c) R T) Q (step_questions s number) r granted asks went in
-    let others = (granted_of (λ _. c ≡ with_run (run_in_hand c) s) O (step_questions s number) r granted asks other).2 in
-    let same : m.0 ≡ w.0 = cc in
-    let go : Went B w.0 at_start (run_in_hand c) S T =
-    subst (λ (R : State). Went B w.0 at_start (run_in_hand c) R T) t
-    (subst (λ (C : Build). Went C w.0 at_start (run_in_hand c) R T) e
-    (subst (λ (q : RunState). Went C w.0 q (run_in_hand c) R T) fresh w.2)) in
+    let got = granted_in (λ f. f) (step_questions s number) r granted asks in
+    let n = got.0 in
+    let many = at_ok (λ n. n ≡ min k (length (left C.words C.width (run_in_hand s)))) _ r n got.1 most in
+    let done = at_ok (λ n. Went C n (run_in_hand s) (run_in_hand c) R T) _ r n got.1 went in
+    let others = at_ok (λ _. c ≡ with_run (run_in_hand c) s) _ r n got.1 other in
+    let go : Went B n at_start (run_in_hand c) S T =
+    subst (λ (R : State). Went B n at_start (run_in_hand c) R T) t
+    (subst (λ (C : Build). Went C n at_start (run_in_hand c) R T) e
+    (subst (λ (q : RunState). Went C n q (run_in_hand c) R T) fresh done)) in
     let begun = left_start B.words B.width mlt1 in
     let all_left : length (left C.words C.width (run_in_hand s)) ≡ length (left B.words B.width at_start) =
     ap₂ (λ (C : Build) (q : RunState). length (left C.words C.width q)) e fresh in
     let count = length_is B.words B.width in
-    let run = went_whole B w.0 k at_start (run_in_hand c) S T go begun refl (omega (arith, same, m.2, all_left)) (omega (arith, count)) (omega (arith, formed.few_words, formed.few_bits)) in
+    let run = went_whole B n k at_start (run_in_hand c) S T go begun refl (omega (arith, many, all_left)) (omega (arith, count)) (omega (arith, formed.few_words, formed.few_bits)) in
     let place : (run_in_hand c).place ≡ run_length B = omega (arith, go.place, run.2, count, formed.few_words, formed.few_bits) in
     let there : (run_in_hand c).place ≡ run_length E = place ∙ ap run_length (sym (f ∙ e)) in
     let running : is_some c.run ≡ true = ap (λ (c : Books). is_some c.run) others in

@@ -1,5 +1,5 @@
 // Charts on a bench.
-ghost use Rattle.std.specs.Prelude.{◌≡◌, length, MatchResult};
+ghost use Rattle.std.specs.Prelude.{◌≡◌, length, IfOk, OnOk, OnErr};
 ghost use Rattle.cam.specs.Operations.{after_all};
 ghost use Rattle.cam.specs.Refusals.{Asks};
 ghost use Rattle.chart.specs.Chart.{Charted as ChartIn, chart_operations, blemishes};
@@ -19,11 +19,13 @@ impl<C: CamArray> Bench<C> {
     // the tally stays within the limit (54).
     pub fn chart(&mut self, buffer: &mut [u8]) -> Result<Finding, Fault>
         ensures asks_in_order { Asks (chart_questions (C.build self.old.array) (C.state self.old.array) self.old.books (length buffer.old)) result }
-        ensures blemished_cells { MatchResult result (λ f. f ≡ Charted (blemishes (C.build self.old.array))) (λ _. self.new ≡ self.old) }
-        ensures every_byte { MatchResult result (λ _. ChartIn (C.build self.old.array) buffer.old buffer.new) (λ _. buffer.new ≡ buffer.old) }
-        ensures charted_or_unchanged { MatchResult result (λ _. self.new.books ≡ charted (blemishes (C.build self.old.array)) self.old.books) (λ _. self.new ≡ self.old) }
-        ensures operated_or_unchanged { MatchResult result (λ _. C.state self.new.array ≡ after_all (C.build self.old.array) (chart_operations (C.build self.old.array).words (C.build self.old.array).width) (C.state self.old.array)) (λ _. self.new ≡ self.old) }
+        ensures blemished_cells { IfOk result (λ f. f ≡ Charted (blemishes (C.build self.old.array))) }
+        ensures every_byte { OnOk result (ChartIn (C.build self.old.array) buffer.old buffer.new) }
+        ensures chart_counted { OnOk result (self.new.books ≡ charted (blemishes (C.build self.old.array)) self.old.books) }
+        ensures chart_operations_done { OnOk result (C.state self.new.array ≡ after_all (C.build self.old.array) (chart_operations (C.build self.old.array).words (C.build self.old.array).width) (C.state self.old.array)) }
         ensures build_stays { C.build self.new.array ≡ C.build self.old.array }
+        ensures refused_changes_nothing { OnErr result (self.new ≡ self.old) }
+        ensures refused_leaves_the_buffer { OnErr result (buffer.new ≡ buffer.old) }
     {
         if self.books.run.is_some() {
             return Err(Fault::of_call(Reason::RunInHand));

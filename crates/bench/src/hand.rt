@@ -1,6 +1,6 @@
 // Operations by hand. Each asks whether no run is in hand (51), then, where it has one, for the word (52) and for the
 // pattern and the mask (53), and last whether the tally stays within the bench's limit (54).
-ghost use Rattle.std.specs.Prelude.{◌≡◌, ◌&&◌, MatchResult, nat_lt};
+ghost use Rattle.std.specs.Prelude.{◌≡◌, ◌&&◌, IfOk, OnOk, OnErr, nat_lt};
 ghost use Rattle.std.specs.Fn.{FnOnceReturnsAtMut};
 ghost use Rattle.cam.specs.Model.{written, erased, counted, read_word, hit};
 ghost use Rattle.cam.specs.Refusals.{Asks};
@@ -71,8 +71,9 @@ impl<C: CamArray> Bench<C> {
     ) -> Result<R, Fault>
         requires { F.IsAlwaysCallable act }
         ensures asks_in_order { Asks (hand_questions (C.build self.old.array) (C.state self.old.array) self.old.books operation) result }
-        ensures done_or_unchanged { MatchResult result (λ answer. FnOnceReturnsAtMut F.FnOnce act self.old.array answer self.new.array) (λ _. self.new ≡ self.old) }
-        ensures counted_or_unchanged { MatchResult result (λ _. self.new.books ≡ handled self.old.books) (λ _. self.new ≡ self.old) }
+        ensures done { IfOk result (λ answer. FnOnceReturnsAtMut F.FnOnce act self.old.array answer self.new.array) }
+        ensures counted_by_hand { OnOk result (self.new.books ≡ handled self.old.books) }
+        ensures refused_changes_nothing { OnErr result (self.new ≡ self.old) }
     {
         self.may_operate(operation)?;
         let answer = act(&mut self.array);
@@ -82,9 +83,10 @@ impl<C: CamArray> Bench<C> {
 
     pub fn write(&mut self, word: WordIndex, pattern: u64, mask: u64) -> Result<(), Fault>
         ensures asks_in_order { Asks (hand_questions (C.build self.old.array) (C.state self.old.array) self.old.books (Write word pattern mask)) result }
-        ensures written_or_unchanged { MatchResult result (λ _. C.state self.new.array ≡ written (C.build self.old.array) word.number pattern mask (C.state self.old.array)) (λ _. self.new ≡ self.old) }
-        ensures counted_or_unchanged { MatchResult result (λ _. self.new.books ≡ handled self.old.books) (λ _. self.new ≡ self.old) }
+        ensures word_written { OnOk result (C.state self.new.array ≡ written (C.build self.old.array) word.number pattern mask (C.state self.old.array)) }
+        ensures counted_by_hand { OnOk result (self.new.books ≡ handled self.old.books) }
         ensures build_stays { C.build self.new.array ≡ C.build self.old.array }
+        ensures refused_changes_nothing { OnErr result (self.new ≡ self.old) }
     {
         let operation = Operation::Write {
             word,
@@ -96,20 +98,22 @@ impl<C: CamArray> Bench<C> {
 
     pub fn read(&mut self, word: WordIndex) -> Result<u64, Fault>
         ensures asks_in_order { Asks (hand_questions (C.build self.old.array) (C.state self.old.array) self.old.books (Read word)) result }
-        ensures held_bits { MatchResult result (λ bits. bits ≡ read_word (C.build self.old.array) word.number (C.state self.old.array)) (λ _. self.new ≡ self.old) }
-        ensures tallied_or_unchanged { MatchResult result (λ _. C.state self.new.array ≡ counted (C.state self.old.array)) (λ _. self.new ≡ self.old) }
-        ensures counted_or_unchanged { MatchResult result (λ _. self.new.books ≡ handled self.old.books) (λ _. self.new ≡ self.old) }
+        ensures held_bits { IfOk result (λ bits. bits ≡ read_word (C.build self.old.array) word.number (C.state self.old.array)) }
+        ensures tallied { OnOk result (C.state self.new.array ≡ counted (C.state self.old.array)) }
+        ensures counted_by_hand { OnOk result (self.new.books ≡ handled self.old.books) }
         ensures build_stays { C.build self.new.array ≡ C.build self.old.array }
+        ensures refused_changes_nothing { OnErr result (self.new ≡ self.old) }
     {
         self.by_hand(Operation::Read { word }, |array| array.read(word))
     }
 
     pub fn compare(&mut self, pattern: u64, mask: u64) -> Result<bool, Fault>
         ensures asks_in_order { Asks (hand_questions (C.build self.old.array) (C.state self.old.array) self.old.books (Compare pattern mask)) result }
-        ensures some_word_matches { MatchResult result (λ yes. yes ≡ hit (C.build self.old.array) pattern mask (C.state self.old.array)) (λ _. self.new ≡ self.old) }
-        ensures tallied_or_unchanged { MatchResult result (λ _. C.state self.new.array ≡ counted (C.state self.old.array)) (λ _. self.new ≡ self.old) }
-        ensures counted_or_unchanged { MatchResult result (λ _. self.new.books ≡ handled self.old.books) (λ _. self.new ≡ self.old) }
+        ensures some_word_matches { IfOk result (λ yes. yes ≡ hit (C.build self.old.array) pattern mask (C.state self.old.array)) }
+        ensures tallied { OnOk result (C.state self.new.array ≡ counted (C.state self.old.array)) }
+        ensures counted_by_hand { OnOk result (self.new.books ≡ handled self.old.books) }
         ensures build_stays { C.build self.new.array ≡ C.build self.old.array }
+        ensures refused_changes_nothing { OnErr result (self.new ≡ self.old) }
     {
         self.by_hand(Operation::Compare { pattern, mask }, |array| {
             array.compare(pattern, mask)
@@ -118,9 +122,10 @@ impl<C: CamArray> Bench<C> {
 
     pub fn erase(&mut self, word: WordIndex) -> Result<(), Fault>
         ensures asks_in_order { Asks (hand_questions (C.build self.old.array) (C.state self.old.array) self.old.books (Erase word)) result }
-        ensures erased_or_unchanged { MatchResult result (λ _. C.state self.new.array ≡ erased (C.build self.old.array) word.number (C.state self.old.array)) (λ _. self.new ≡ self.old) }
-        ensures counted_or_unchanged { MatchResult result (λ _. self.new.books ≡ handled self.old.books) (λ _. self.new ≡ self.old) }
+        ensures word_erased { OnOk result (C.state self.new.array ≡ erased (C.build self.old.array) word.number (C.state self.old.array)) }
+        ensures counted_by_hand { OnOk result (self.new.books ≡ handled self.old.books) }
         ensures build_stays { C.build self.new.array ≡ C.build self.old.array }
+        ensures refused_changes_nothing { OnErr result (self.new ≡ self.old) }
     {
         self.by_hand(Operation::Erase { word }, |array| array.erase(word))
     }

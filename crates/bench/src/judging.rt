@@ -1,5 +1,5 @@
 // The judging of one array from start to end.
-ghost use Rattle.std.specs.Prelude.{◌≡◌, length, MatchResult};
+ghost use Rattle.std.specs.Prelude.{◌≡◌, length, IfOk, IfErr, OnOk, OnErr};
 ghost use Rattle.cam.specs.Refusals.{Asks, AsksIn};
 ghost use Rattle.chart.specs.Chart.{Charted as ChartIn};
 ghost use Rattle.bench.specs.Books.{new_books};
@@ -65,10 +65,12 @@ fn may_judge<C: CamArray>(array: &C, bytes: usize) -> Result<(), Fault>
 fn judge_on<C: CamArray>(bench: &mut Bench<C>, buffer: &mut [u8]) -> Result<Judgement, Fault>
     requires new_bench { bench.old.books ≡ new_books }
     ensures asks_in_order { Asks (judge_questions (C.build bench.old.array) (C.state bench.old.array) (length buffer.old)) result }
-    ensures judgement_is_right { MatchResult result (λ j. Judges (C.build bench.old.array) (C.state bench.old.array) j) (λ _. bench.new ≡ bench.old) }
-    ensures every_byte { MatchResult result (λ _. ChartIn (C.build bench.old.array) buffer.old buffer.new) (λ _. buffer.new ≡ buffer.old) }
-    ensures only_these_operations { MatchResult result (λ _. C.state bench.new.array ≡ judged_state (C.build bench.old.array) (C.state bench.old.array)) (λ _. bench.new ≡ bench.old) }
+    ensures judgement_is_right { IfOk result (λ j. Judges (C.build bench.old.array) (C.state bench.old.array) j) }
+    ensures every_byte { OnOk result (ChartIn (C.build bench.old.array) buffer.old buffer.new) }
+    ensures only_these_operations { OnOk result (C.state bench.new.array ≡ judged_state (C.build bench.old.array) (C.state bench.old.array)) }
     ensures build_stays { C.build bench.new.array ≡ C.build bench.old.array }
+    ensures refused_changes_nothing { OnErr result (bench.new ≡ bench.old) }
+    ensures refused_leaves_the_buffer { OnErr result (buffer.new ≡ buffer.old) }
 {
     may_judge(&bench.array, buffer.len())?;
     let size = size_of(&bench.array);
@@ -87,10 +89,12 @@ fn judge_on<C: CamArray>(bench: &mut Bench<C>, buffer: &mut [u8]) -> Result<Judg
 // asks for a byte for each cell (57) and for room in the tally (54) before it does anything.
 pub fn judge_array<C: CamArray>(array: C, buffer: &mut [u8]) -> Result<Judged<C>, NotJudged<C>>
     ensures asks_in_order { AsksIn (λ e. e.fault) (judge_questions (C.build array) (C.state array) (length buffer.old)) result }
-    ensures judgement_is_right { MatchResult result (λ j. Judges (C.build array) (C.state array) j.judgement) (λ e. e.array ≡ array) }
-    ensures every_byte { MatchResult result (λ _. ChartIn (C.build array) buffer.old buffer.new) (λ _. buffer.new ≡ buffer.old) }
-    ensures only_these_operations { MatchResult result (λ j. C.state j.array ≡ judged_state (C.build array) (C.state array)) (λ e. e.array ≡ array) }
-    ensures build_stays { MatchResult result (λ j. C.build j.array ≡ C.build array) (λ e. e.array ≡ array) }
+    ensures judgement_is_right { IfOk result (λ j. Judges (C.build array) (C.state array) j.judgement) }
+    ensures every_byte { OnOk result (ChartIn (C.build array) buffer.old buffer.new) }
+    ensures only_these_operations { IfOk result (λ j. C.state j.array ≡ judged_state (C.build array) (C.state array)) }
+    ensures build_stays { IfOk result (λ j. C.build j.array ≡ C.build array) }
+    ensures array_handed_back { IfErr result (λ e. e.array ≡ array) }
+    ensures refused_leaves_the_buffer { OnErr result (buffer.new ≡ buffer.old) }
 {
     let mut bench = Bench::new(array);
     let judged = judge_on(&mut bench, buffer);

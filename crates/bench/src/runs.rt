@@ -1,5 +1,5 @@
 // Runs of MLT-1 and their tickets.
-ghost use Rattle.std.specs.Prelude.{◌≡◌, ◌-◌, min, length, Some, IfOk, MatchResult};
+ghost use Rattle.std.specs.Prelude.{◌≡◌, ◌-◌, min, length, Some, IfOk, IfErr, OnOk, OnErr};
 ghost use Rattle.cam.specs.Refusals.{Asks, AsksIn};
 ghost use Rattle.mlt1.specs.Left.{left, Went};
 ghost use Rattle.bench.specs.Books.{run_in_hand, started, with_run, found, closed, stopped};
@@ -17,9 +17,10 @@ impl<C: CamArray> Bench<C> {
     // Starts a run at place 0, if none is in hand (51) and the tally and the starts stay within the limit (54).
     pub fn start(&mut self) -> Result<Ticket, Fault>
         ensures asks_in_order { Asks (start_questions (C.build self.old.array) (C.state self.old.array) self.old.books) result }
-        ensures ticket_with_the_number_of_starts { MatchResult result (λ ticket. ticket.number ≡ self.new.books.starts) (λ _. self.new ≡ self.old) }
-        ensures started_or_unchanged { MatchResult result (λ _. self.new.books ≡ started self.old.books) (λ _. self.new ≡ self.old) }
+        ensures ticket_with_the_number_of_starts { IfOk result (λ ticket. ticket.number ≡ self.new.books.starts) }
+        ensures run_started { OnOk result (self.new.books ≡ started self.old.books) }
         ensures array_stays { self.new.array ≡ self.old.array }
+        ensures refused_changes_nothing { OnErr result (self.new ≡ self.old) }
     {
         if self.books.run.is_some() {
             return Err(Fault::of_call(Reason::RunInHand));
@@ -61,10 +62,11 @@ impl<C: CamArray> Bench<C> {
     // Does the next operations of the run, at most `most`, if the ticket fits (55), and says how many.
     pub fn step(&mut self, ticket: &Ticket, most: u32) -> Result<u32, Fault>
         ensures asks_in_order { Asks (step_questions self.old.books ticket.now.number) result }
-        ensures most_or_all_left { MatchResult result (λ n. n ≡ min most (length (left (C.build self.old.array).words (C.build self.old.array).width (run_in_hand self.old.books)))) (λ _. self.new ≡ self.old) }
-        ensures next_steps_done { MatchResult result (λ n. Went (C.build self.old.array) n (run_in_hand self.old.books) (run_in_hand self.new.books) (C.state self.old.array) (C.state self.new.array)) (λ _. self.new ≡ self.old) }
-        ensures other_books_stay { MatchResult result (λ _. self.new.books ≡ with_run (run_in_hand self.new.books) self.old.books) (λ _. self.new ≡ self.old) }
+        ensures most_or_all_left { IfOk result (λ n. n ≡ min most (length (left (C.build self.old.array).words (C.build self.old.array).width (run_in_hand self.old.books)))) }
+        ensures next_steps_done { IfOk result (λ n. Went (C.build self.old.array) n (run_in_hand self.old.books) (run_in_hand self.new.books) (C.state self.old.array) (C.state self.new.array)) }
+        ensures other_books_stay { OnOk result (self.new.books ≡ with_run (run_in_hand self.new.books) self.old.books) }
         ensures build_stays { C.build self.new.array ≡ C.build self.old.array }
+        ensures refused_changes_nothing { OnErr result (self.new ≡ self.old) }
     {
         let mut run = self.run_of(ticket.number)?;
         let done = run.advance_by(&mut self.array, most);
@@ -75,9 +77,11 @@ impl<C: CamArray> Bench<C> {
     // Closes the run of the ticket (55) at its end (56): the finding is sound where no answer missed, else faulty.
     pub fn close(&mut self, ticket: Ticket) -> Result<Finding, NotClosed>
         ensures asks_in_order { AsksIn (λ e. e.fault) (close_questions (C.build self.old.array) self.old.books ticket.number) result }
-        ensures finding_of_the_misses { MatchResult result (λ f. f ≡ found (run_in_hand self.old.books).misses) (λ e. e.ticket ≡ ticket) }
-        ensures closed_or_unchanged { MatchResult result (λ _. self.new.books ≡ closed self.old.books) (λ _. self.new ≡ self.old) }
+        ensures finding_of_the_misses { IfOk result (λ f. f ≡ found (run_in_hand self.old.books).misses) }
+        ensures run_closed { OnOk result (self.new.books ≡ closed self.old.books) }
         ensures array_stays { self.new.array ≡ self.old.array }
+        ensures ticket_handed_back { IfErr result (λ e. e.ticket ≡ ticket) }
+        ensures refused_changes_nothing { OnErr result (self.new ≡ self.old) }
     {
         match self.ended_run(ticket.number) {
             Ok(run) => {
@@ -99,8 +103,9 @@ impl<C: CamArray> Bench<C> {
     // stays.
     pub fn quit(&mut self, ticket: Ticket) -> Result<(), Fault>
         ensures asks_in_order { Asks (quit_questions self.old.books ticket.number) result }
-        ensures stopped_or_unchanged { MatchResult result (λ _. self.new.books ≡ stopped self.old.books) (λ _. self.new ≡ self.old) }
+        ensures run_stopped { OnOk result (self.new.books ≡ stopped self.old.books) }
         ensures array_stays { self.new.array ≡ self.old.array }
+        ensures refused_changes_nothing { OnErr result (self.new ≡ self.old) }
     {
         let Ticket { number } = ticket;
         let run = self.run_of(number)?;

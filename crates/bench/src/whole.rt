@@ -1,5 +1,5 @@
 // A whole run on a bench, and the judging of an array from start to end.
-ghost use Rattle.std.specs.Prelude.{◌≡◌, ◌↔◌, MatchResult};
+ghost use Rattle.std.specs.Prelude.{◌≡◌, ◌↔◌, IfOk, OnOk, OnErr};
 ghost use Rattle.cam.specs.Defects.{Sound};
 ghost use Rattle.cam.specs.Refusals.{Asks};
 ghost use Rattle.march.specs.Tests.{schedule, misses, after};
@@ -19,11 +19,12 @@ impl<C: CamArray> Bench<C> {
     // was done before.
     pub fn run_whole(&mut self) -> Result<Finding, Fault>
         ensures asks_in_order { Asks (start_questions (C.build self.old.array) (C.state self.old.array) self.old.books) result }
-        ensures finding_of_the_misses { MatchResult result (λ f. f ≡ found (misses (C.build self.old.array) (schedule (C.build self.old.array).words (C.build self.old.array).width mlt1) (C.state self.old.array))) (λ _. self.new ≡ self.old) }
-        ensures sound_exactly_without_a_defect { MatchResult result (λ f. (finding_number f ≡ 1) ↔ Sound (C.build self.old.array)) (λ _. self.new ≡ self.old) }
-        ensures one_run_more { MatchResult result (λ f. self.new.books ≡ ran_whole f self.old.books) (λ _. self.new ≡ self.old) }
-        ensures state_after_the_schedule { MatchResult result (λ _. C.state self.new.array ≡ after (C.build self.old.array) (schedule (C.build self.old.array).words (C.build self.old.array).width mlt1) (C.state self.old.array)) (λ _. self.new ≡ self.old) }
+        ensures finding_of_the_misses { IfOk result (λ f. f ≡ found (misses (C.build self.old.array) (schedule (C.build self.old.array).words (C.build self.old.array).width mlt1) (C.state self.old.array))) }
+        ensures sound_exactly_without_a_defect { IfOk result (λ f. (finding_number f ≡ 1) ↔ Sound (C.build self.old.array)) }
+        ensures one_run_more { IfOk result (λ f. self.new.books ≡ ran_whole f self.old.books) }
+        ensures state_after_the_schedule { OnOk result (C.state self.new.array ≡ after (C.build self.old.array) (schedule (C.build self.old.array).words (C.build self.old.array).width mlt1) (C.state self.old.array)) }
         ensures build_stays { C.build self.new.array ≡ C.build self.old.array }
+        ensures refused_changes_nothing { OnErr result (self.new ≡ self.old) }
     {
         let operations = operation_count(size_of(&self.array));
         let ticket = self.start()?;

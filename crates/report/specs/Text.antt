@@ -1,6 +1,7 @@
 -- The lines of a judgement.
-use Rattle.std.specs.Prelude.{◌≡◌, ℕ, cond, List, [], ◌∷◌, ◌++◌, length, codes, decimal, ◌==◌, nat_le}
+use Rattle.std.specs.Prelude.{◌≡◌, ℕ, cond, List, [], ◌∷◌, ◌++◌, length, codes, decimal, Result, MatchResult, ◌==◌, nat_le}
 pub use Rattle.cam.specs.Buffers.{over}
+use Rattle.cam.specs.declared.fault.Fault.{Fault}
 use Rattle.cam.specs.Refusals.{Question, ask}
 
 -- the lines, each with its line feed
@@ -30,6 +31,10 @@ largest_place = 4294967295
 -- A line is made in a buffer: its length is answered, it stands at the front, and the bytes after it are as they were.
 abbrev pub Made : List ℕ → ℕ → List ℕ → List ℕ → Type 0
 Made line n old new = (n ≡ length line) × (new ≡ over old 0 line)
+
+-- What a call makes of a buffer: the line, or nothing where it is refused.
+abbrev pub MakesLine : List ℕ → List ℕ → List ℕ → Result ℕ Fault → Type 0
+MakesLine line old new r = MatchResult r (λ n. Made line n old new) (λ _. new ≡ old)
 
 -- 64 bytes at least
 abbrev pub line_questions : ℕ → List Question

@@ -1,8 +1,8 @@
 // A line from its pieces.
-ghost use Rattle.std.specs.Prelude.{◌≡◌, ◌+◌, ◌≤◌, length, decimal, MatchResult};
+ghost use Rattle.std.specs.Prelude.{◌≡◌, ◌+◌, ◌≤◌, length, decimal};
 ghost use Rattle.cam.specs.Buffers.{over};
 ghost use Rattle.cam.specs.Refusals.{Asks};
-ghost use Rattle.report.specs.Text.{Made, line_questions};
+ghost use Rattle.report.specs.Text.{MakesLine, line_questions};
 ghost use Rattle.report.specs.Pieces.{line_of, longest};
 
 use cam::buffer::put_text;
@@ -24,7 +24,7 @@ fn put_number(buffer: &mut [u8], at: usize, number: u32) -> usize
 pub(crate) fn line(buffer: &mut [u8], pieces: &[(&[u8], u32)], end: &[u8]) -> Result<usize, Fault>
     requires short { longest pieces.now + length end.now ≤ 64 }
     ensures asks_in_order { Asks (line_questions (length buffer.old)) result }
-    ensures every_byte { MatchResult result (λ n. Made (line_of pieces.now end.now) n buffer.old buffer.new) (λ _. buffer.new ≡ buffer.old) }
+    ensures every_byte { MakesLine (line_of pieces.now end.now) buffer.old buffer.new result }
 {
     if buffer.len() < 64 {
         return Err(Fault::of_call(Reason::BufferTooShort));

@@ -1,8 +1,8 @@
-use Rattle.std.proofs.Common.{◌≡◌, ℕ, ◌+◌, ◌*◌, length, ap, ◌∙◌, subst, ap₂}
+use Rattle.std.proofs.Common.{ℕ, ◌+◌, ◌*◌, length, ap, ◌∙◌, ap₂}
 use Rattle.cam.specs.Model.{Build}
 use Rattle.cam.specs.Operations.{after_all}
 use Rattle.cam.proofs.Asking.{refused_not_0}
-use Rattle.chart.specs.Chart.{Charted, chart_operations, blemishes}
+use Rattle.chart.specs.Chart.{chart_operations, blemishes}
 use Rattle.bench.specs.declared.books.Books.{Books}
 use Rattle.bench.specs.Books.{finding_count}
 use Rattle.bench.proofs.WholeRun.{run_granted, chart_granted}
@@ -25,30 +25,27 @@ returns-in_err-charted g c =
     ran.build_stays ran.state_after_the_schedule (ap (λ (b : Books). b.run) ran.one_run_more) c.in_ok-may_judge.ensures.asks_in_order (m.formed x.array).tally_within in
     absurd (refused_not_0 _ _ c.in_err-charted.ensures.asks_in_order asked)
 
-pub returns : goal.returns
-returns g c =
+pub returns-clause-judgement_is_right : goal.returns-clause-judgement_is_right
+returns-clause-judgement_is_right g c =
     let m = g.C.CamArray in
-    let x1 = c.run_whole.new.self in
-    let B = m.build c.args.bench.now.array in
     let ran = c.in_ok-finding.ensures in
-    let drawn = c.in_ok-charted.ensures in
     let words = c.size_of-size.ensures.words_of_the_array in
     let width = c.size_of-size.ensures.bits_of_the_array in
-    let build1 : m.build x1.array ≡ B = ran.build_stays in
     record {
-      asks_in_order = c.in_ok-may_judge.ensures.asks_in_order;
-      judgement_is_right = record {
-        words = words;
-        width = width;
-        operations = c.operation_count.ensures.eleven_a_word_two_a_column ∙ ap₂ (λ (n w : ℕ). 11 * n + 2 * w) words width;
-        finding = ran.finding_of_the_misses;
-        sound = ran.sound_exactly_without_a_defect;
-        charting = c.operation_count-2.ensures.eight_and_four_a_column_for_each_word ∙ ap₂ (λ (n w : ℕ). n * (8 + 4 * w)) words width;
-        blemished = c.count.ensures.misses_or_cells ∙ ap finding_count drawn.blemished_cells ∙ ap blemishes build1;
-      };
-      every_byte = subst (λ B. Charted B c.args.buffer.now c.chart.new.buffer) build1 drawn.every_byte;
-      only_these_operations = drawn.operated_or_unchanged
-          ∙ ap (λ (C : Build). after_all C (chart_operations C.words C.width) (m.state x1.array)) build1
-          ∙ ap (after_all B (chart_operations B.words B.width)) ran.state_after_the_schedule;
-      build_stays = drawn.build_stays ∙ build1;
+      words = words;
+      width = width;
+      operations = c.operation_count.ensures.eleven_a_word_two_a_column ∙ ap₂ (λ (n w : ℕ). 11 * n + 2 * w) words width;
+      finding = ran.finding_of_the_misses;
+      sound = ran.sound_exactly_without_a_defect;
+      charting = c.operation_count-2.ensures.eight_and_four_a_column_for_each_word ∙ ap₂ (λ (n w : ℕ). n * (8 + 4 * w)) words width;
+      blemished = c.count.ensures.misses_or_cells ∙ ap finding_count c.in_ok-charted.ensures.blemished_cells ∙ ap blemishes ran.build_stays;
     }
+
+pub returns-clause-only_these_operations : goal.returns-clause-only_these_operations
+returns-clause-only_these_operations g c =
+    let m = g.C.CamArray in
+    let ran = c.in_ok-finding.ensures in
+    let B = m.build c.args.bench.now.array in
+    c.in_ok-charted.ensures.chart_operations_done
+    ∙ ap (λ (C : Build). after_all C (chart_operations C.words C.width) (m.state c.run_whole.new.self.array)) ran.build_stays
+    ∙ ap (after_all B (chart_operations B.words B.width)) ran.state_after_the_schedule
