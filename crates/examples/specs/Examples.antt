@@ -1,5 +1,5 @@
 -- Worked examples. Each is small enough to be followed by hand.
-use Rattle.std.specs.Prelude.{◌≡◌, Bool, true, false, ℕ, length}
+use Rattle.std.specs.Prelude.{◌≡◌, Bool, true, false, ℕ, length, Some}
 use Rattle.cam.specs.Model.{Build, State, written}
 use Rattle.cam.specs.Defects.{flawless, cleared, with_storage, with_pair, with_stuck_mark, is_pair}
 use Rattle.cam.specs.declared.defect.Storage.TheVariants.{Sa0, NoRise}
@@ -8,7 +8,7 @@ use Rattle.mlt1.specs.Mlt1.{mlt1}
 use Rattle.chart.specs.Chart.{chart_operations}
 use Rattle.chart.specs.Bytes.{chart_byte}
 use Rattle.cells.specs.declared.transistor.TransistorCell.{TransistorCell}
-use Rattle.cells.specs.declared.transistor.Transistor.TheVariants as transistor
+use Rattle.cells.specs.declared.transistor.TransistorFault.TheVariants.{On}
 use Rattle.cells.specs.declared.transistor.Position.TheVariants.{SearchA}
 use Rattle.cells.specs.Transistors.{AllGood, with_stuck, wrong_by}
 use Rattle.bench.specs.Books.{found, finding_number}
@@ -73,4 +73,4 @@ pub record SameMisses : Type 0 where
 
 -- leg A's search transistor stuck on, and all others good: just the pair 11 is wrong
 abbrev pub StuckLeg : Type 0
-StuckLeg = (c : TransistorCell) → AllGood c → (h b : Bool) → wrong_by (with_stuck SearchA transistor.StuckOn c) h b ≡ is_pair true true h b
+StuckLeg = (c : TransistorCell) → AllGood c → (h b : Bool) → wrong_by (with_stuck SearchA (Some On) c) h b ≡ is_pair true true h b

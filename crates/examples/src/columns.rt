@@ -17,9 +17,5 @@ pub fn single_column_masks() -> [u64; 3]
     ensures chart_tells_what_misses_do_not { SameMisses }
     ensures search_transistor_stuck_on { StuckLeg }
 {
-    [
-        all_but_column(WIDTH, ColumnIndex { number: 0 }),
-        all_but_column(WIDTH, ColumnIndex { number: 1 }),
-        all_but_column(WIDTH, ColumnIndex { number: 2 }),
-    ]
+    [0, 1, 2].map(|number| all_but_column(WIDTH, ColumnIndex { number }))
 }

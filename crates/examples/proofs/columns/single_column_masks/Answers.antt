@@ -1,14 +1,11 @@
-use mathlib.Core.List.{[], ◌∷◌}
-use mathlib.Core.Path.{refl}
-use borrow.Author.Rules.{rules}
+use Rattle.std.proofs.Common.{refl}
 use Rattle.cam.specs.Bits.{bit}
 use Rattle.mlt1.proofs.Lengths.{length_is}
 use Rattle.chart.proofs.Lengths.{chart_length_lem}
-use Rattle.examples.specs.Examples.{Lengths, Norise, JudgedExample, HiddenExample, SameMisses, StuckLeg}
 use Rattle.examples.proofs.columns.single_column_masks.Goals as goal
 
-lengths : Lengths
-lengths =
+pub returns-clause-lengths_of_mlt1_and_chart : goal.returns-clause-lengths_of_mlt1_and_chart
+returns-clause-lengths_of_mlt1_and_chart c =
     record {
       mlt1_1_1 = length_is 1 1;
       mlt1_3_3 = length_is 3 3;
@@ -17,33 +14,19 @@ lengths =
       chart_256_64 = chart_length_lem 256 64;
     }
 
-norise : Norise
+pub returns-clause-norise_cell_does_not_rise_again : goal.returns-clause-norise_cell_does_not_rise_again
 unfolding bit
-norise = record { after_1 = refl; after_1_0 = refl; after_1_0_1 = refl }
+returns-clause-norise_cell_does_not_rise_again c = record { after_1 = refl; after_1_0 = refl; after_1_0_1 = refl }
 
-judged : JudgedExample
+pub returns-clause-judged_array_has_4_misses : goal.returns-clause-judged_array_has_4_misses
 unfolding bit
-judged = refl
+returns-clause-judged_array_has_4_misses c = refl
 
-hidden : HiddenExample
+pub returns-clause-faults_that_hide_each_other_are_found : goal.returns-clause-faults_that_hide_each_other_are_found
 unfolding bit
-hidden = record { one_miss = refl; found_faulty = refl }
+returns-clause-faults_that_hide_each_other_are_found c = record { one_miss = refl; found_faulty = refl }
 
-same : SameMisses
+pub returns-clause-chart_tells_what_misses_do_not : goal.returns-clause-chart_tells_what_misses_do_not
 unfolding bit
-same = record { of_stuck_mark = refl; of_never_matching = refl; chart_of_stuck_mark = refl; chart_of_never_matching = refl }
-
-leg : StuckLeg
-leg = search rules
-
-pub returns : goal.returns
-returns c =
-    record {
-      masks_6_5_3 = λ d. c.all_but_column.ensures.mask d ∷ c.all_but_column-2.ensures.mask d ∷ c.all_but_column-3.ensures.mask d ∷ [];
-      lengths_of_mlt1_and_chart = lengths;
-      norise_cell_does_not_rise_again = norise;
-      judged_array_has_4_misses = judged;
-      faults_that_hide_each_other_are_found = hidden;
-      chart_tells_what_misses_do_not = same;
-      search_transistor_stuck_on = leg;
-    }
+returns-clause-chart_tells_what_misses_do_not c =
+    record { of_stuck_mark = refl; of_never_matching = refl; chart_of_stuck_mark = refl; chart_of_never_matching = refl }
