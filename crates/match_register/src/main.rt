@@ -5,31 +5,20 @@
 mod operating;
 mod register;
 
-use anyhow::anyhow;
-use bench::judging::{Judged, NotJudged, judge_array};
+use bench::judging::judge_array;
+use cam::fault::Fault;
 use register::MatchRegister;
 
-fn tell(rt: &HostRuntime, name: &str, register: MatchRegister) -> anyhow::Result<()> {
+fn tell(rt: &impl Print, name: &str, register: MatchRegister) -> anyhow::Result<()> {
     let mut chart = [0u8; 8];
-    match judge_array(register, &mut chart) {
-        Ok(
-            Judged {
-                array: _,
-                judgement,
-            },
-        ) => {
-            let finding = judgement.finding.number();
-            let operations = judgement.operations;
-            println!(rt;
-                "{name}: finding {finding} after {operations} operations, chart {chart:?}"
-            )?;
-            Ok(())
-        }
-        Err(NotJudged { array: _, fault: _ }) => Err(anyhow!("not judged")),
-    }
+    let judged = judge_array(register, &mut chart).map_err(Fault::from)?;
+    let finding = judged.judgement.finding.number();
+    let operations = judged.judgement.operations;
+    println!(rt; "{name}: finding {finding} after {operations} operations, chart {chart:?}")?;
+    Ok(())
 }
 
-fn run(rt: &HostRuntime) -> anyhow::Result<()> {
+fn run(rt: &impl Print) -> anyhow::Result<()> {
     tell(rt, "sound", MatchRegister::new(false))?;
     tell(rt, "stuck mark", MatchRegister::new(true))
 }

@@ -30,16 +30,21 @@ impl CamArray for MatchRegister {
     }
 
     fn write(&mut self, word: WordIndex, pattern: u64, mask: u64) {
-        if word.number == 0 {
-            self.held = (self.held & mask) | (pattern & !mask);
-            self.mark = true;
-        }
         self.tally = one_more(self.tally);
+        if word.number >= WORDS {
+            return;
+        }
+        self.held = (self.held & mask) | (pattern & !mask);
+        self.mark = true;
     }
 
     fn read(&mut self, word: WordIndex) -> u64 {
         self.tally = one_more(self.tally);
-        if word.number == 0 { self.held & 255 } else { 0 }
+        if word.number < WORDS {
+            self.held & 255
+        } else {
+            0
+        }
     }
 
     fn compare(&mut self, pattern: u64, mask: u64) -> bool {
@@ -48,9 +53,9 @@ impl CamArray for MatchRegister {
     }
 
     fn erase(&mut self, word: WordIndex) {
-        if word.number == 0 {
+        self.tally = one_more(self.tally);
+        if word.number < WORDS {
             self.mark = false;
         }
-        self.tally = one_more(self.tally);
     }
 }
