@@ -1,5 +1,5 @@
 -- A sheet that is read is a whole test: 1 to 16 elements of 1 to 8 operations. Assumes nothing.
-use Rattle.std.proofs.Common.{◌≡◌, ℕ, ◌+◌, ◌<◌, ◌≤◌, Bool, true, leb, List, [], ◌∷◌, ◌++◌, length, Ok, sym, refl, ap, subst, arith, length-append}
+use Rattle.std.proofs.Common.{◌≡◌, ℕ, ◌+◌, ◌<◌, ◌≤◌, Bool, true, leb, List, [], ◌∷◌, ◌++◌, length, IfOk, Ok, Err, Result, sym, refl, ap, subst, arith, length-append}
 use lib.ListN.{length-map}
 use Rattle.std.proofs.lemmas.Bool.Decides.{nat_tests}
 use Rattle.std.proofs.lemmas.Bool.{and_parts}
@@ -7,11 +7,14 @@ use Rattle.march.specs.declared.element.TestOperation.{TestOperation}
 use Rattle.march.specs.declared.element.TestOperation.TheVariants as operation
 use Rattle.march.specs.declared.operations.Order.{Order}
 use Rattle.march.specs.declared.operations.Order.TheVariants.{Up, Down, Columns}
+use Rattle.cam.specs.declared.fault.Fault.{Fault}
+use Rattle.march.specs.declared.test.Test.{Test}
+use Rattle.march.specs.Table.{elements_of}
 use Rattle.march.specs.Every.{every}
 use Rattle.march.specs.Tests as tests
 use Rattle.march.specs.Tests.{up, down, columns}
 use Rattle.march.specs.Building.{opened, operations_of, longer, is_filled, is_whole}
-use Rattle.words.specs.declared.token.Token.{Token}
+use Rattle.words.specs.Lexing.{Token}
 use Rattle.words.specs.Readings.{on}
 use Rattle.words.specs.Listings.{Gathered, shut, more}
 use Rattle.words.proofs.Rules.{same_ok}
@@ -20,7 +23,7 @@ use Rattle.sheets.specs.declared.line.LineWord.{LineWord}
 use Rattle.sheets.specs.declared.line.LineWord.TheVariants.{Note, Element}
 use Rattle.sheets.specs.Elements.{Grows, Inside, ElementAt}
 use Rattle.sheets.specs.Lines.{LineBody, LineAt, Lines}
-use Rattle.sheets.specs.Sheets.{Sheet, SheetText}
+use Rattle.sheets.specs.Sheets.{Sheet, SheetText, sheet_of}
 
 longer_few : (e : tests.Element) (o : TestOperation) → length (operations_of (longer e o)) ≤ length (operations_of e) + 1
 longer_few (up os) o = omega (arith, length-append os (o ∷ []))
@@ -34,7 +37,7 @@ longer_few (columns cs) operation.Erase = omega arith
 grows_few : (text : List ℕ) (e : tests.Element) (t : Token) (g : Gathered tests.Element) → Grows text e t (Ok g) → length (operations_of g.value) ≤ 8
 grows_few text e t g (on {x = p} (on (room h) _) q) =
     let same = ap (λ g. length (operations_of g.value)) (same_ok g _ q) in
-    omega (arith, longer_few e p.operation)
+    omega (arith, longer_few e p.value)
 
 filled : (e : tests.Element) → 0 < length (operations_of e) → length (operations_of e) ≤ 8 → is_filled e ≡ true
 filled e some few =
@@ -72,9 +75,9 @@ body_good : (text : List ℕ) (es : List tests.Element) (p : ℕ) (w : LineWord)
 body_good text es p Note a g (on _ q) good = subst (λ g. Good g.value) (sym (same_ok g _ q)) good
 body_good text es p (Element o) a g x good = element_good o es p text a g x good
 
-line_good : (text : List ℕ) (es : List tests.Element) (t : Token) (g : Gathered (List tests.Element)) → LineAt text es t (Ok g) → Good es → Good g.value
-line_good text es t g (on {x = h} _ (on {x = b} body (on _ q))) good =
-    subst (λ g. Good g.value) (sym (same_ok g _ q)) (body_good text es t.from h.word h.to b body good)
+line_good : (text : List ℕ) (es : List tests.Element) (p a : ℕ) (g : Gathered (List tests.Element)) → LineAt text es p a (Ok g) → Good es → Good g.value
+line_good text es p a g (on {x = h} _ (on {x = b} body (on _ q))) good =
+    subst (λ g. Good g.value) (sym (same_ok g _ q)) (body_good text es p h.value h.to b body good)
 
 whole : (es : List tests.Element) → 0 < length es → Good es → is_whole es ≡ true
 whole es some good =
@@ -85,8 +88,12 @@ whole es some good =
 
 lines_whole : (text : List ℕ) (es : List tests.Element) (a : ℕ) (g : Gathered (List tests.Element)) → Lines text es a (Ok g) → Good es → is_whole g.value ≡ true
 lines_whole text es a _ (shut x k some) good = whole es some good
-lines_whole text es a g (more {t} {y} x k p rest) good = lines_whole text y.value y.to g rest (line_good text es t y p good)
+lines_whole text es a g (more {t} {y} x k p rest) good = lines_whole text y.value y.to g rest (line_good text es t.from t.to y p good)
 
 pub sheet_whole : (text : List ℕ) (s : Sheet) → SheetText text (Ok s) → is_whole s.elements ≡ true
 sheet_whole text s (on {x = h} _ (on {x = g} lines (on _ (on _ q)))) =
     subst (λ s. is_whole s.elements ≡ true) (sym (same_ok s _ q)) (lines_whole text [] h.to g lines (record { few = omega arith; all = refl }))
+
+pub whole_so : {text : List ℕ} (r : Result Test Fault) → SheetText text (sheet_of r) → IfOk r (λ t. is_whole (elements_of t) ≡ true)
+whole_so {text} (Ok t) x = sheet_whole text _ x
+whole_so (Err f) x = tt

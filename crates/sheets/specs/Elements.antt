@@ -4,7 +4,7 @@ use Rattle.cam.specs.declared.fault.Fault.{Fault}
 use Rattle.march.specs.declared.operations.Order.{Order}
 use Rattle.march.specs.Tests.{Element}
 use Rattle.march.specs.Building.{opened, order_of, operations_of, longer}
-use Rattle.words.specs.declared.token.Token.{Token}
+use Rattle.words.specs.Lexing.{Token}
 use Rattle.words.specs.Readings.{Then}
 use Rattle.words.specs.Listings.{Gathered, gathered, Listing}
 use Rattle.sheet_operations.specs.Questions.{ElementRoom}
@@ -17,8 +17,8 @@ Filled e = 0 < length (operations_of e)
 -- one more operation, which the bracket t opens
 abbrev pub Grows : List ℕ → Element → Token → Result (Gathered Element) Fault → Type 0
 Grows text e t =
-    Then (OperationAt (order_of e) (length (operations_of e)) text t)
-    (λ p r. r ≡ Ok (gathered (longer e p.operation) p.to))
+    Then (OperationAt (order_of e) (length (operations_of e)) text t.from t.to)
+    (λ p r. r ≡ Ok (gathered (longer e p.value) p.to))
 
 -- inside the element e, what follows at `a` gives: its operations, up to its closing bracket
 abbrev pub Inside : List ℕ → Element → ℕ → Result (Gathered Element) Fault → Type 0

@@ -6,9 +6,8 @@ use Rattle.march.specs.Tests.{Element}
 use Rattle.march.specs.Table.{elements_of, name_of}
 use Rattle.words.specs.declared.token.Kind.TheVariants.{Open, LineFeed, End}
 use Rattle.words.specs.Lexing.{Measured, bytes_of}
-use Rattle.words.specs.Readings.{Then}
+use Rattle.words.specs.Readings.{Then, Gathered, gathered}
 use Rattle.words.specs.Forms.{Next, WordNext, NameNext}
-use Rattle.sheets.specs.declared.sheet.Title.{Title}
 use Rattle.sheets.specs.Lines.{Lines}
 
 -- what a sheet says
@@ -21,15 +20,18 @@ abbrev pub sheet_of : Result Test Fault → Result Sheet Fault
 sheet_of (Ok t) = Ok (record { name = name_of t; elements = elements_of t })
 sheet_of (Err f) = Err f
 
--- the text is short enough, and its first line is `(test NAME`
-abbrev pub TitleLine : List ℕ → Result Title Fault → Type 0
-TitleLine text =
-    Then (Measured text) (λ _.
-    Then (Next Open text 0) (λ a.
+-- the first line, `(test NAME`
+abbrev pub TitleNext : List ℕ → ℕ → Result (Gathered (List ℕ)) Fault → Type 0
+TitleNext text p =
+    Then (Next Open text p) (λ a.
     Then (WordNext (codes "test") text a) (λ b.
     Then (NameNext text b) (λ t.
     Then (Next LineFeed text t.to)
-    (λ c r. r ≡ Ok (record { name = t; to = c }))))))
+    (λ c r. r ≡ Ok (gathered (bytes_of text t) c)))))
+
+-- the text is short enough, and that line stands at its front
+abbrev pub TitleLine : List ℕ → Result (Gathered (List ℕ)) Fault → Type 0
+TitleLine text = Then (Measured text) (λ _. TitleNext text 0)
 
 -- the first line, the other lines up to the closing bracket, a line feed, and the end of the text
 abbrev pub SheetText : List ℕ → Result Sheet Fault → Type 0
@@ -38,4 +40,4 @@ SheetText text =
     Then (Lines text [] h.to) (λ g.
     Then (Next LineFeed text g.to) (λ e.
     Then (Next End text e)
-    (λ _ r. r ≡ Ok (record { name = bytes_of text h.name; elements = g.value })))))
+    (λ _ r. r ≡ Ok (record { name = h.value; elements = g.value })))))

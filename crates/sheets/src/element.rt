@@ -1,58 +1,33 @@
-// An element of a sheet, from after its word on.
-ghost use Rattle.std.specs.Prelude.{◌≡◌, ◌≤◌, length, IfOk};
-ghost use Rattle.march.specs.Table.{elements_of, name_of};
-ghost use Rattle.words.specs.Forms.{Ahead};
-ghost use Rattle.words.specs.Listings.{leaving};
-ghost use Rattle.words.specs.Readings.{Reading};
-ghost use Rattle.sheets.specs.Elements.{ElementAt};
+// An element of a sheet, from after the word of its order on.
+ghost use Rattle.std.specs.Prelude.{◌≡◌, ◌≤◌};
+ghost use Rattle.march.specs.Tests.{meant};
+ghost use Rattle.march.specs.Building.{opened};
+ghost use Rattle.words.specs.Readings.{Reading, come_to, result_map};
+ghost use Rattle.sheets.specs.Elements.{Inside};
 
-use cam::fault::{Fault, Reason};
+use cam::fault::Fault;
+use march::element::Element;
 use march::operations::Order;
-use march::test::Test;
 use sheet_operations::operation::read_operation;
-use sheet_operations::question::check_room;
+use words::cursor::Cursor;
 use words::form::not_wanted;
-use words::token::{Kind, next_token};
+use words::token::Kind;
 
-const MOST_ELEMENTS: u8 = 16;
-
-// Reads an element, of which the bracket at `bracket` and the word of its order were read, into a new last element of
-// the test. Answers the place after its closing bracket.
-pub(crate) fn read_element(
-    text: &[u8],
-    at: usize,
-    order: Order,
-    bracket: usize,
-    test: &mut Test,
-) -> Result<usize, Fault>
-    requires starts_inside { at ≤ length text.now }
-    ensures reading { Reading (ElementAt order (elements_of test.old) bracket text.now at) (leaving (elements_of test.new) result) }
-    ensures ahead { IfOk result (Ahead text.now at) }
-    ensures name_stays { name_of test.new ≡ name_of test.old }
+// Reads the operations of an element of this order, up to its closing bracket.
+pub(crate) fn read_element(cursor: &mut Cursor, order: Order) -> Result<Element, Fault>
+    ensures reading { Reading (Inside cursor.old.text.now (opened order) cursor.old.at) (come_to cursor.new.at (result_map meant result)) }
+    ensures text_stays { cursor.new.text.now ≡ cursor.old.text.now }
+    ensures goes_on { cursor.old.at ≤ cursor.new.at }
 {
-    check_room(
-        test.element_count(),
-        MOST_ELEMENTS,
-        Reason::TooManyElements,
-        bracket,
-    )?;
-    test.add_element(order)?;
-    let mut place = at;
-    let mut count: u8 = 0;
+    let mut element = Element::opened(order);
     loop {
-        let token = next_token(text, place)?;
+        let token = cursor.next_token()?;
         match token.kind {
-            Kind::Close => {
-                if count == 0 {
-                    return Err(not_wanted(token.from));
-                }
-                return Ok(token.to);
-            }
+            Kind::Close if element.operation_count() > 0 => return Ok(element),
             Kind::Open => {
-                let parsed = read_operation(text, token, order, count)?;
-                test.add_operation(parsed.operation)?;
-                place = parsed.to;
-                count += 1;
+                let count = element.operation_count();
+                let operation = read_operation(cursor, token.from, order, count)?;
+                element.add(operation)?;
             }
             _ => return Err(not_wanted(token.from)),
         }

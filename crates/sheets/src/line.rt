@@ -1,18 +1,19 @@
 // The lines of a sheet: elements and remarks, each with its line feed.
-ghost use Rattle.std.specs.Prelude.{◌≡◌, ◌≤◌, length, IfOk};
-ghost use Rattle.march.specs.Table.{elements_of, name_of};
-ghost use Rattle.words.specs.Forms.{Ahead};
-ghost use Rattle.words.specs.Listings.{leaving};
-ghost use Rattle.words.specs.Readings.{Reading};
-ghost use Rattle.sheets.specs.Lines.{LineWordNext, LineBody, LineAt, Lines};
+ghost use Rattle.std.specs.Prelude.{◌≡◌, ◌≤◌, []};
+ghost use Rattle.words.specs.Readings.{Reading, come_to, reached, leaving, result_map};
+ghost use Rattle.sheets.specs.Lines.{line_spelling, LineAt, Lines, meanings};
 
 use crate::element::read_element;
-use cam::fault::Fault;
+use cam::fault::{Fault, Reason};
+use march::element::Element;
+use march::few::Few;
 use march::operations::Order;
-use march::test::Test;
-use words::form::{not_wanted, spells, want};
-use words::remark::outermost_remark;
-use words::token::{Kind, Token, next_token};
+use sheet_operations::question::check_room;
+use words::cursor::Cursor;
+use words::form::{Spelled, not_wanted};
+use words::token::Kind;
+
+const MOST_ELEMENTS: u8 = 16;
 
 // The word that a line begins with.
 #[derive(Clone, Copy)]
@@ -21,82 +22,61 @@ pub enum LineWord {
     Element(Order),
 }
 
-// The word of a line, and the place after it.
-#[derive(Clone, Copy)]
-pub struct LineHead {
-    pub word: LineWord,
-    pub to: usize,
-}
+impl Spelled for LineWord {
+    ghost use Rattle.sheets.specs.Lines.{line_words_differ};
 
-// Reads the word that a line begins with.
-fn read_line_word(text: &[u8], at: usize) -> Result<LineHead, Fault>
-    requires starts_inside { at ≤ length text.now }
-    ensures reading { Reading (LineWordNext text.now at) result }
-    ensures ahead { IfOk result (λ h. Ahead text.now at h.to) }
-{
-    let token = next_token(text, at)?;
-    let word = if spells(text, token, b"note") {
-        LineWord::Note
-    } else if spells(text, token, b"up") {
-        LineWord::Element(Order::Up)
-    } else if spells(text, token, b"down") {
-        LineWord::Element(Order::Down)
-    } else if spells(text, token, b"columns") {
-        LineWord::Element(Order::Columns)
-    } else {
-        return Err(not_wanted(token.from));
-    };
-    Ok(LineHead { word, to: token.to })
-}
+    ghost spelling = { line_spelling };
 
-// Reads what follows the word of a line, up to the place after its closing bracket. An element goes into the test.
-fn read_line_body(
-    text: &[u8],
-    head: LineHead,
-    bracket: usize,
-    test: &mut Test,
-) -> Result<usize, Fault>
-    requires head_inside { head.to ≤ length text.now }
-    ensures reading { Reading (LineBody text.now (elements_of test.old) bracket head.word head.to) (leaving (elements_of test.new) result) }
-    ensures ahead { IfOk result (Ahead text.now head.to) }
-    ensures name_stays { name_of test.new ≡ name_of test.old }
-{
-    match head.word {
-        LineWord::Note => outermost_remark(text, head.to),
-        LineWord::Element(order) => read_element(text, head.to, order, bracket, test),
+    ghost differ = { line_words_differ };
+
+    fn spelled(word: &[u8]) -> Option<LineWord> {
+        match word {
+            b"note" => Some(LineWord::Note),
+            b"up" => Some(LineWord::Element(Order::Up)),
+            b"down" => Some(LineWord::Element(Order::Down)),
+            b"columns" => Some(LineWord::Element(Order::Columns)),
+            _ => None,
+        }
     }
 }
 
-// Reads the line that the bracket opens, up to the place after its line feed.
-fn read_line(text: &[u8], bracket: Token, test: &mut Test) -> Result<usize, Fault>
-    requires bracket_inside { bracket.to ≤ length text.now }
-    ensures reading { Reading (LineAt text.now (elements_of test.old) bracket) (leaving (elements_of test.new) result) }
-    ensures ahead { IfOk result (Ahead text.now bracket.to) }
-    ensures name_stays { name_of test.new ≡ name_of test.old }
+// Reads the line whose bracket was read, at this place, up to its line feed. An element goes to the others.
+fn read_line(
+    cursor: &mut Cursor,
+    bracket: usize,
+    elements: &mut Few<Element, 16>,
+) -> Result<(), Fault>
+    ensures reading { Reading (LineAt cursor.old.text.now (meanings elements.old) bracket cursor.old.at) (leaving (meanings elements.new) (reached cursor.new.at result)) }
+    ensures text_stays { cursor.new.text.now ≡ cursor.old.text.now }
+    ensures goes_on { cursor.old.at ≤ cursor.new.at }
 {
-    let head = read_line_word(text, bracket.to)?;
-    let end = read_line_body(text, head, bracket.from, test)?;
-    want(text, end, Kind::LineFeed)
+    match cursor.one_of()? {
+        LineWord::Note => cursor.outermost_remark()?,
+        LineWord::Element(order) => {
+            check_room(
+                elements.len(),
+                MOST_ELEMENTS,
+                Reason::TooManyElements,
+                bracket,
+            )?;
+            elements.push(read_element(cursor, order)?);
+        }
+    }
+    cursor.want(Kind::LineFeed)
 }
 
-// Reads the lines of a sheet into the test, up to the place after the sheet's closing bracket.
-pub(crate) fn read_lines(text: &[u8], at: usize, test: &mut Test) -> Result<usize, Fault>
-    requires starts_inside { at ≤ length text.now }
-    ensures reading { Reading (Lines text.now (elements_of test.old) at) (leaving (elements_of test.new) result) }
-    ensures ahead { IfOk result (Ahead text.now at) }
-    ensures name_stays { name_of test.new ≡ name_of test.old }
+// Reads the lines of a sheet, up to the sheet's closing bracket.
+pub(crate) fn read_lines(cursor: &mut Cursor) -> Result<Few<Element, 16>, Fault>
+    ensures reading { Reading (Lines cursor.old.text.now [] cursor.old.at) (come_to cursor.new.at (result_map meanings result)) }
+    ensures text_stays { cursor.new.text.now ≡ cursor.old.text.now }
+    ensures goes_on { cursor.old.at ≤ cursor.new.at }
 {
-    let mut place = at;
+    let mut elements = Few::default();
     loop {
-        let token = next_token(text, place)?;
+        let token = cursor.next_token()?;
         match token.kind {
-            Kind::Close => {
-                if test.element_count() == 0 {
-                    return Err(not_wanted(token.from));
-                }
-                return Ok(token.to);
-            }
-            Kind::Open => place = read_line(text, token, test)?,
+            Kind::Close if elements.len() > 0 => return Ok(elements),
+            Kind::Open => read_line(cursor, token.from, &mut elements)?,
             _ => return Err(not_wanted(token.from)),
         }
     }

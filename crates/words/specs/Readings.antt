@@ -34,3 +34,8 @@ reached e (Err f) = Err f
 abbrev pub leaving : {X : Type 0} → X → Result ℕ Fault → Result (Gathered X) Fault
 leaving x (Ok e) = Ok (gathered x e)
 leaving x (Err f) = Err f
+
+-- the same answer about what the value stands for
+abbrev pub result_map : {X Y : Type 0} → (X → Y) → Result X Fault → Result Y Fault
+result_map f (Ok x) = Ok (f x)
+result_map f (Err g) = Err g

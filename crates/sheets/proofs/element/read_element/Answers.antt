@@ -1,72 +1,63 @@
-use Rattle.std.proofs.Common.{Ok, Err, refl, ◌∙◌, subst, arith}
 use Rattle.std.proofs.lemmas.Result.{err_from_is_err_and}
-use Rattle.words.specs.Readings.{off}
-use Rattle.words.specs.Listings.{lexed, too_few, other}
-use Rattle.words.proofs.Parts.{token_ahead}
+use Rattle.std.proofs.Common.{refl, ap, ◌∙◌, arith}
+use Rattle.march.specs.Building.{order_of}
+use Rattle.words.specs.Readings.{on, off}
+use Rattle.words.specs.Listings.{shut, more, lexed, too_few, other, piece}
 use Rattle.words.proofs.Rules.{pinned}
-use Rattle.sheet_operations.specs.Questions.{ElementRoom}
-use Rattle.sheets.proofs.Growing.{start, one_more, taken, room_taken, finished, stopped, refused_piece, read_room}
-use Rattle.sheets.proofs.Ones.{element_one}
+use Rattle.sheets.proofs.Growing.{at_element, taken, longer_order}
+use Rattle.sheets.proofs.Ones.{inside_one}
 use Rattle.sheets.proofs.element.read_element.Goals as goal
+use Rattle.sheets.proofs.element.read_element.Goals.{in_default-via-in-Close+else-operation_count-gt0, in_default-via-in_default}
 
-pub loop-token-init : goal.loop-token-init
-loop-token-init c = start _ _ _ _ c.requires.starts_inside
-
-pub returns-in_err-check_room : goal.returns-in_err-check_room
-returns-in_err-check_room c =
+pub returns-in_err-token-clause-reading : goal.returns-in_err-token-clause-reading
+returns-in_err-token-clause-reading c =
     let p = err_from_is_err_and c.from_residual.result c.from_residual.ensures.1 in
-    let x = subst (λ n. ElementRoom n c.args.bracket (Err c.in_err-check_room.field-0.0)) c.element_count.ensures.how_many_elements c.in_err-check_room.ensures.reading.reads in
-    rw (p.1, p.2) record { reading = pinned (element_one _ _ _ _ _) (off x); ahead = tt; name_stays = refl }
+    let i = c.loop-token.invariant in
+    let x = rw i.text_stays at c.in_err-token.ensures.reading.reads in
+    rw (p.1, p.2) (pinned (inside_one _ _ _) (i.rest _ (lexed x)))
 
-pub returns-in_err-add_element : goal.returns-in_err-add_element
-returns-in_err-add_element c =
-    let room = subst (λ n. ElementRoom n c.args.bracket (Ok tt)) c.element_count.ensures.how_many_elements c.in_ok-check_room.ensures.reading.reads in
-    absurd (room_taken _ _ _ room c.in_err-add_element.ensures.asks_room)
+pub returns-in-Close-clause-reading : goal.returns-in-Close-clause-reading
+returns-in-Close-clause-reading c =
+    let i = c.loop-token.invariant in
+    let x = rw i.text_stays at c.in_ok-token.ensures.reading.reads in
+    let n = c.operation_count.ensures.how_many_operations in
+    pinned (inside_one _ _ _) (i.rest _ (shut x c.in-Close.is (omega (arith, c.if-operation_count-gt0.true))))
 
-pub returns-in_err-token : goal.returns-in_err-token
-returns-in_err-token c =
-    let p = err_from_is_err_and c.from_residual-in_err-token.result c.from_residual-in_err-token.ensures.1 in
-    let room = subst (λ n. ElementRoom n c.args.bracket (Ok tt)) c.element_count.ensures.how_many_elements c.in_ok-check_room.ensures.reading.reads in
-    rw (p.1, p.2)
-    record { reading = pinned (element_one _ _ _ _ _) (stopped c.loop-token.invariant _ _ room (lexed c.in_err-token.ensures.reading.reads)); ahead = tt; name_stays = c.loop-token.invariant.name ∙ c.in_ok-add_element.ensures.name_stays }
+pub returns-in_err-operation-in-Open-clause-reading : goal.returns-in_err-operation-in-Open-clause-reading
+returns-in_err-operation-in-Open-clause-reading c =
+    let p = err_from_is_err_and c.from_residual-in_err-operation-in-Open.result c.from_residual-in_err-operation-in-Open.ensures.1 in
+    let i = c.loop-token.invariant in
+    let t = c.in_ok-token.ensures in
+    let x = rw i.text_stays at t.reading.reads in
+    let o = rw (t.text_stays, i.text_stays) at c.in_err-operation-in-Open.ensures.reading.reads in
+    rw (p.1, p.2) (pinned (inside_one _ _ _) (i.rest _ (piece x c.in-Open.is (off (at_element _ i.ordered c.operation_count-count.ensures.how_many_operations o)))))
 
-pub returns-then-count-eq0 : goal.returns-then-count-eq0
-returns-then-count-eq0 c =
-    let room = subst (λ n. ElementRoom n c.args.bracket (Ok tt)) c.element_count.ensures.how_many_elements c.in_ok-check_room.ensures.reading.reads in
-    rw c.not_wanted.ensures.not_wanted_there
-    record { reading = pinned (element_one _ _ _ _ _) (stopped c.loop-token.invariant _ _ room (too_few c.in_ok-token.ensures.reading.reads c.in-Close.is (λ some. let n = c.loop-token.invariant.counted in omega arith))); ahead = tt; name_stays = c.loop-token.invariant.name ∙ c.in_ok-add_element.ensures.name_stays }
-
-pub returns-in-Close : goal.returns-in-Close
-returns-in-Close c =
-    let room = subst (λ n. ElementRoom n c.args.bracket (Ok tt)) c.element_count.ensures.how_many_elements c.in_ok-check_room.ensures.reading.reads in
-    let x = c.in_ok-token.ensures.reading.reads in
-    let f = token_ahead x in
-    record {
-      reading = pinned (element_one _ _ _ _ _) (finished c.loop-token.invariant _ _ c.in_ok-add_element.ensures.one_more_at_the_end room x c.in-Close.is (omega arith));
-      ahead = record { after = omega (arith, c.loop-token.invariant.ahead.after, f.after); inside = f.inside };
-      name_stays = c.loop-token.invariant.name ∙ c.in_ok-add_element.ensures.name_stays;
-    }
-
-pub returns-in_err-parsed-in-Open : goal.returns-in_err-parsed-in-Open
-returns-in_err-parsed-in-Open c =
-    let p = err_from_is_err_and c.from_residual-in_err-parsed-in-Open.result c.from_residual-in_err-parsed-in-Open.ensures.1 in
-    let room = subst (λ n. ElementRoom n c.args.bracket (Ok tt)) c.element_count.ensures.how_many_elements c.in_ok-check_room.ensures.reading.reads in
-    rw (p.1, p.2)
-    record { reading = pinned (element_one _ _ _ _ _) (stopped c.loop-token.invariant _ _ room (refused_piece c.loop-token.invariant c.in_ok-token.ensures.reading.reads c.in-Open.is c.in_err-parsed-in-Open.ensures.reading.reads)); ahead = tt; name_stays = c.loop-token.invariant.name ∙ c.in_ok-add_element.ensures.name_stays }
-
-pub returns-in_err-add_operation-in-Open : goal.returns-in_err-add_operation-in-Open
-returns-in_err-add_operation-in-Open c =
-    absurd (taken c.loop-token.invariant c.in_ok-token.token _ _ _ c.in_ok-add_element.ensures.one_more_at_the_end c.in_ok-parsed-in-Open.ensures.reading.reads c.in_err-add_operation-in-Open.ensures.asks_in_order)
-
-pub loop-token-smaller : goal.loop-token-smaller
-loop-token-smaller c = let h = read_room _ _ _ c.in_ok-token.token _ c.in_ok-parsed-in-Open.ensures.reading.reads in omega arith
+pub returns-in_err-add-in-Open-clause-reading : goal.returns-in_err-add-in-Open-clause-reading
+returns-in_err-add-in-Open-clause-reading c =
+    let i = c.loop-token.invariant in
+    absurd (taken _ i.ordered c.operation_count-count.ensures.how_many_operations _ _ c.in_ok-operation-in-Open.ensures.reading.reads c.in_err-add-in-Open.ensures.asks_in_order)
 
 pub loop-token-preserved : goal.loop-token-preserved
 loop-token-preserved c =
-    one_more c.loop-token.invariant c.add_operation.new.self c.in_ok-token.ensures.reading.reads c.in-Open.is c.in_ok-parsed-in-Open.ensures.reading.reads c.in_ok-add_operation-in-Open.ensures.last_element_longer c.in_ok-add_operation-in-Open.ensures.name_stays
+    let i = c.loop-token.invariant in
+    let t = c.in_ok-token.ensures in
+    let x = rw i.text_stays at t.reading.reads in
+    let o = rw (t.text_stays, i.text_stays) at c.in_ok-operation-in-Open.ensures.reading.reads in
+    let grown = c.in_ok-add-in-Open.ensures.one_more_at_the_end in
+    record {
+      text_stays = c.in_ok-operation-in-Open.ensures.text_stays ∙ t.text_stays ∙ i.text_stays;
+      goes_on = omega (arith, i.goes_on, t.goes_on, c.in_ok-operation-in-Open.ensures.goes_on);
+      ordered = ap order_of grown ∙ longer_order _ _ ∙ i.ordered;
+      rest = λ r z. i.rest r (more x c.in-Open.is (on (at_element _ i.ordered c.operation_count-count.ensures.how_many_operations o) refl) (rw grown at z));
+    }
 
-pub returns-in_default : goal.returns-in_default
-returns-in_default c =
-    let room = subst (λ n. ElementRoom n c.args.bracket (Ok tt)) c.element_count.ensures.how_many_elements c.in_ok-check_room.ensures.reading.reads in
-    rw c.not_wanted-in_default.ensures.not_wanted_there
-    record { reading = pinned (element_one _ _ _ _ _) (stopped c.loop-token.invariant _ _ room (other c.in_ok-token.ensures.reading.reads c.in_default.not-Close c.in_default.not-Open)); ahead = tt; name_stays = c.loop-token.invariant.name ∙ c.in_ok-add_element.ensures.name_stays }
+pub returns-in_default-clause-reading : goal.returns-in_default-clause-reading
+returns-in_default-clause-reading c =
+    let i = c.loop-token.invariant in
+    let t = c.in_ok-token.ensures in
+    let x = rw i.text_stays at t.reading.reads in
+    rw c.not_wanted.ensures.not_wanted_there
+    (pinned (inside_one _ _ _) (i.rest _ (elim c.in_default.branch [
+      | in_default-via-in-Close+else-operation_count-gt0 w ↦ (let n = w.operation_count.ensures.how_many_operations in too_few x w.in-Close.is (λ some. omega (arith, w.if-operation_count-gt0.false)))
+      | in_default-via-in_default w ↦ other x w.in_default.not-Close w.in_default.not-Open
+    ])))

@@ -1,9 +1,19 @@
-use Rattle.std.proofs.Common.{◌-◌}
-use Rattle.sheets.proofs.Growing.{Sofar}
+use Rattle.std.proofs.Common.{◌≡◌, ◌-◌, ◌≤◌, length, Result}
+use Rattle.cam.specs.declared.fault.Fault.{Fault}
+use Rattle.march.specs.Tests.{Element, meant}
+use Rattle.march.specs.Building.{opened, order_of}
+use Rattle.words.specs.Readings.{Gathered}
+use Rattle.sheets.specs.Elements.{Inside}
 use Rattle.sheets.proofs.element.read_element.Given as goal
 
+-- what the rest gives, the whole gives
 abbrev pub invariant-loop-token : goal.invariant-loop-token
-invariant-loop-token l = Sofar l.text l.order l.at l.initial.test l.test l.count l.place
+invariant-loop-token l = record {
+  text_stays : l.cursor.text.now ≡ l.fn.cursor.text.now;
+  goes_on : l.fn.cursor.at ≤ l.cursor.at;
+  ordered : order_of (meant l.element) ≡ l.order;
+  rest : (r : Result (Gathered Element) Fault) → Inside l.fn.cursor.text.now (meant l.element) l.cursor.at r → Inside l.fn.cursor.text.now (opened l.order) l.fn.cursor.at r;
+}
 
 abbrev pub decreases-loop-token : goal.decreases-loop-token
-decreases-loop-token l = 8 - l.count
+decreases-loop-token l = length l.cursor.text.now - l.cursor.at

@@ -1,29 +1,49 @@
-use Rattle.std.proofs.Common.{refl, arith}
 use Rattle.std.proofs.lemmas.Result.{err_from_is_err_and}
+use Rattle.std.proofs.Common.{refl, ◌∙◌}
 use Rattle.words.specs.Readings.{on, off}
 use Rattle.words.proofs.Rules.{pinned}
-use Rattle.words.proofs.Parts.{onward}
 use Rattle.words.proofs.Lists.{leaves}
-use Rattle.sheets.proofs.Ones.{line_one}
+use Rattle.sheets.specs.Lines.{meanings}
+use Rattle.sheets.proofs.Ones.{line_one, noted, elemental, room_asked, one_more, Unended}
 use Rattle.sheets.proofs.line.read_line.Goals as goal
+use Rattle.sheets.proofs.line.read_line.Goals.{in-Note+in_ok-outermost_remark-in-Note, in-Element+in_ok-check_room-in-Element+in_ok-read_element-in-Element}
 
-pub returns-in_err-head : goal.returns-in_err-head
-returns-in_err-head c =
+pub returns-in_err-one_of-clause-reading : goal.returns-in_err-one_of-clause-reading
+returns-in_err-one_of-clause-reading c =
     let p = err_from_is_err_and c.from_residual.result c.from_residual.ensures.1 in
-    rw (p.1, p.2) record { reading = pinned (line_one c.args.text.now _ c.args.bracket) (off c.in_err-head.ensures.reading.reads); ahead = tt; name_stays = refl }
+    rw (p.1, p.2) (pinned (line_one _ _ _ _) (off c.in_err-one_of.ensures.reading.reads))
 
-pub returns-in_err-end : goal.returns-in_err-end
-returns-in_err-end c =
-    let p = err_from_is_err_and c.from_residual-in_err-end.result c.from_residual-in_err-end.ensures.1 in
-    rw (p.1, p.2) record { reading = pinned (line_one c.args.text.now _ c.args.bracket) (on c.in_ok-head.ensures.reading.reads (off c.in_err-end.ensures.reading.reads)); ahead = tt; name_stays = c.read_line_body.ensures.name_stays }
+pub returns-in_err-outermost_remark-in-Note-clause-reading : goal.returns-in_err-outermost_remark-in-Note-clause-reading
+returns-in_err-outermost_remark-in-Note-clause-reading c =
+    let p = err_from_is_err_and c.from_residual-in_err-outermost_remark-in-Note.result c.from_residual-in_err-outermost_remark-in-Note.ensures.1 in
+    let l = c.in_ok-one_of.ensures in
+    let m = rw l.text_stays at c.in_err-outermost_remark-in-Note.ensures.reading.reads in
+    rw (p.1, p.2) (pinned (line_one _ _ _ _) (on l.reading.reads (off (noted _ _ _ _ _ _ c.in-Note.is m))))
 
-pub returns : goal.returns
-returns c =
-    let h = c.in_ok-head.ensures in
-    let e = c.in_ok-end.ensures in
-    let w = c.want.ensures in
-    record {
-      reading = pinned (line_one c.args.text.now _ c.args.bracket) (on h.reading.reads (on e.reading.reads (leaves _ _ _ w.reading.reads)));
-      ahead = onward (λ e. e) _ _ _ c.want.result (omega (arith, h.ahead.after, e.ahead.after)) w.ahead;
-      name_stays = e.name_stays;
-    }
+pub returns-in_err-check_room-in-Element-clause-reading : goal.returns-in_err-check_room-in-Element-clause-reading
+returns-in_err-check_room-in-Element-clause-reading c =
+    let p = err_from_is_err_and c.from_residual-in_err-check_room-in-Element.result c.from_residual-in_err-check_room-in-Element.ensures.1 in
+    let l = c.in_ok-one_of.ensures in
+    let m = room_asked c.args.elements.now _ _ _ c.len.ensures.item_count c.in_err-check_room-in-Element.ensures.reading.reads in
+    rw (p.1, p.2) (pinned (line_one _ _ _ _) (on l.reading.reads (off (elemental _ _ _ _ _ _ _ c.in-Element.is (off m)))))
+
+pub returns-in_err-read_element-in-Element-clause-reading : goal.returns-in_err-read_element-in-Element-clause-reading
+returns-in_err-read_element-in-Element-clause-reading c =
+    let p = err_from_is_err_and c.from_residual-in_err-read_element-in-Element.result c.from_residual-in_err-read_element-in-Element.ensures.1 in
+    let l = c.in_ok-one_of.ensures in
+    let m = room_asked c.args.elements.now _ _ _ c.len.ensures.item_count c.in_ok-check_room-in-Element.ensures.reading.reads in
+    let e = rw l.text_stays at c.in_err-read_element-in-Element.ensures.reading.reads in
+    rw (p.1, p.2) (pinned (line_one _ _ _ _) (on l.reading.reads (off (elemental _ _ _ _ _ _ _ c.in-Element.is (on m (off e))))))
+
+pub returns-clause-reading : goal.returns-clause-reading
+returns-clause-reading c =
+    let l = c.in_ok-one_of.ensures in
+    let u : Unended c.args.cursor.now.text.now (meanings c.args.elements.now) c.args.bracket c.in_ok-one_of.field-0 c.one_of.new.self.at (meanings c.match-branch-2.elements) c.match-branch-2.cursor.text.now c.match-branch-2.cursor.at = elim c.match-branch-2.branch [
+      | in-Note+in_ok-outermost_remark-in-Note w ↦ (let r = w.in_ok-outermost_remark-in-Note.ensures in rw (w.cursor-is, w.elements-is) (record { text_stays = r.text_stays ∙ l.text_stays; body = noted _ _ _ _ _ _ w.in-Note.is (rw l.text_stays at r.reading.reads) }))
+      | in-Element+in_ok-check_room-in-Element+in_ok-read_element-in-Element w ↦ (
+          let r = w.in_ok-read_element-in-Element.ensures in
+          let m = room_asked c.args.elements.now _ _ _ w.len.ensures.item_count w.in_ok-check_room-in-Element.ensures.reading.reads in
+          let grown = one_more c.args.elements.now w.push.new.self _ _ m w.push.ensures.one_more_at_the_end in
+          rw (w.cursor-is, w.elements-is, grown) (record { text_stays = r.text_stays ∙ l.text_stays; body = elemental _ _ _ _ _ _ _ w.in-Element.is (on m (on (rw l.text_stays at r.reading.reads) refl)) }))
+    ] in
+    pinned (line_one _ _ _ _) (on l.reading.reads (on u.body (leaves _ _ _ (rw u.text_stays at c.want.ensures.reading.reads))))

@@ -1,49 +1,56 @@
-use Rattle.std.proofs.Common.{◌∙◌, arith}
 use Rattle.std.proofs.lemmas.Result.{err_from_is_err_and}
+use Rattle.std.proofs.Common.{◌∙◌, arith}
+use lib.ListN.{length-map}
+use Rattle.march.specs.Lists.{listed}
+use Rattle.march.specs.Tests.{meant}
 use Rattle.words.specs.Listings.{shut, more, lexed, too_few, other, piece}
 use Rattle.words.proofs.Rules.{pinned}
-use Rattle.words.proofs.Parts.{token_ahead}
 use Rattle.sheets.proofs.Ones.{lines_one}
 use Rattle.sheets.proofs.line.read_lines.Goals as goal
+use Rattle.sheets.proofs.line.read_lines.Goals.{in_default-via-in-Close+else-len-gt0, in_default-via-in_default}
 
-pub returns-in_err-token : goal.returns-in_err-token
-returns-in_err-token c =
+pub returns-in_err-token-clause-reading : goal.returns-in_err-token-clause-reading
+returns-in_err-token-clause-reading c =
     let p = err_from_is_err_and c.from_residual.result c.from_residual.ensures.1 in
-    rw (p.1, p.2) record { reading = pinned (lines_one _ _ _) (c.loop-token.invariant.1 _ (lexed c.in_err-token.ensures.reading.reads)); ahead = tt; name_stays = c.loop-token.invariant.2 }
+    let i = c.loop-token.invariant in
+    let x = rw i.text_stays at c.in_err-token.ensures.reading.reads in
+    rw (p.1, p.2) (pinned (lines_one _ _ _) (i.rest _ (lexed x)))
 
-pub returns-then-element_count-eq0 : goal.returns-then-element_count-eq0
-returns-then-element_count-eq0 c =
-    let n = c.element_count.ensures.how_many_elements in
-    rw c.not_wanted.ensures.not_wanted_there
-    record { reading = pinned (lines_one _ _ _) (c.loop-token.invariant.1 _ (too_few c.in_ok-token.ensures.reading.reads c.in-Close.is (λ some. omega arith))); ahead = tt; name_stays = c.loop-token.invariant.2 }
+pub returns-in-Close-clause-reading : goal.returns-in-Close-clause-reading
+returns-in-Close-clause-reading c =
+    let i = c.loop-token.invariant in
+    let x = rw i.text_stays at c.in_ok-token.ensures.reading.reads in
+    let n = c.len.ensures.item_count in
+    pinned (lines_one _ _ _) (i.rest _ (shut x c.in-Close.is (omega (arith, length-map (listed c.loop-token.elements) meant, c.if-len-gt0.true))))
 
-pub returns-in-Close : goal.returns-in-Close
-returns-in-Close c =
-    let n = c.element_count.ensures.how_many_elements in
-    let x = c.in_ok-token.ensures.reading.reads in
-    let f = token_ahead x in
-    record {
-      reading = pinned (lines_one _ _ _) (c.loop-token.invariant.1 _ (shut x c.in-Close.is (omega arith)));
-      ahead = record { after = omega (arith, c.loop-token.invariant.0.after, f.after); inside = f.inside };
-      name_stays = c.loop-token.invariant.2;
-    }
-
-pub returns-in_err-place-in-Open : goal.returns-in_err-place-in-Open
-returns-in_err-place-in-Open c =
-    let p = err_from_is_err_and c.from_residual-in_err-place-in-Open.result c.from_residual-in_err-place-in-Open.ensures.1 in
-    rw (p.1, p.2) record { reading = pinned (lines_one _ _ _) (c.loop-token.invariant.1 _ (piece c.in_ok-token.ensures.reading.reads c.in-Open.is c.in_err-place-in-Open.ensures.reading.reads)); ahead = tt; name_stays = c.read_line.ensures.name_stays ∙ c.loop-token.invariant.2 }
+pub returns-in_err-read_line-in-Open-clause-reading : goal.returns-in_err-read_line-in-Open-clause-reading
+returns-in_err-read_line-in-Open-clause-reading c =
+    let p = err_from_is_err_and c.from_residual-in_err-read_line-in-Open.result c.from_residual-in_err-read_line-in-Open.ensures.1 in
+    let i = c.loop-token.invariant in
+    let t = c.in_ok-token.ensures in
+    let x = rw i.text_stays at t.reading.reads in
+    let l = rw (t.text_stays, i.text_stays) at c.in_err-read_line-in-Open.ensures.reading.reads in
+    rw (p.1, p.2) (pinned (lines_one _ _ _) (i.rest _ (piece x c.in-Open.is l)))
 
 pub loop-token-preserved : goal.loop-token-preserved
 loop-token-preserved c =
-    let x = c.in_ok-token.ensures.reading.reads in
-    let f = token_ahead x in
-    let g = c.in_ok-place-in-Open.ensures.ahead in (
-      record { after = omega (arith, c.loop-token.invariant.0.after, f.after, g.after); inside = g.inside },
-      λ r rest. c.loop-token.invariant.1 r (more x c.in-Open.is c.in_ok-place-in-Open.ensures.reading.reads rest),
-      c.in_ok-place-in-Open.ensures.name_stays ∙ c.loop-token.invariant.2,
-    )
+    let i = c.loop-token.invariant in
+    let t = c.in_ok-token.ensures in
+    let x = rw i.text_stays at t.reading.reads in
+    let l = rw (t.text_stays, i.text_stays) at c.in_ok-read_line-in-Open.ensures.reading.reads in
+    record {
+      text_stays = c.in_ok-read_line-in-Open.ensures.text_stays ∙ t.text_stays ∙ i.text_stays;
+      goes_on = omega (arith, i.goes_on, t.goes_on, c.in_ok-read_line-in-Open.ensures.goes_on);
+      rest = λ r z. i.rest r (more x c.in-Open.is l z);
+    }
 
-pub returns-in_default : goal.returns-in_default
-returns-in_default c =
-    rw c.not_wanted-in_default.ensures.not_wanted_there
-    record { reading = pinned (lines_one _ _ _) (c.loop-token.invariant.1 _ (other c.in_ok-token.ensures.reading.reads c.in_default.not-Close c.in_default.not-Open)); ahead = tt; name_stays = c.loop-token.invariant.2 }
+pub returns-in_default-clause-reading : goal.returns-in_default-clause-reading
+returns-in_default-clause-reading c =
+    let i = c.loop-token.invariant in
+    let t = c.in_ok-token.ensures in
+    let x = rw i.text_stays at t.reading.reads in
+    rw c.not_wanted.ensures.not_wanted_there
+    (pinned (lines_one _ _ _) (i.rest _ (elim c.in_default.branch [
+      | in_default-via-in-Close+else-len-gt0 w ↦ (let n = w.len.ensures.item_count in too_few x w.in-Close.is (λ some. omega (arith, length-map (listed c.loop-token.elements) meant, w.if-len-gt0.false)))
+      | in_default-via-in_default w ↦ other x w.in_default.not-Close w.in_default.not-Open
+    ])))

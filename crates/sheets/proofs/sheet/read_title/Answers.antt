@@ -1,41 +1,50 @@
 use Rattle.std.proofs.lemmas.Result.{err_from_is_err_and}
+use Rattle.std.proofs.Common.{refl}
 use Rattle.words.specs.Readings.{on, off}
 use Rattle.words.proofs.Rules.{pinned}
-use Rattle.std.proofs.Common.{refl, arith}
-use Rattle.sheets.proofs.Ones.{title_one}
+use Rattle.sheets.proofs.Ones.{title_one, name_allowed, named_so}
 use Rattle.sheets.proofs.sheet.read_title.Goals as goal
 
-pub returns-in_err-check_length : goal.returns-in_err-check_length
-returns-in_err-check_length c =
+pub returns-in_err-want-clause-reading : goal.returns-in_err-want-clause-reading
+returns-in_err-want-clause-reading c =
     let p = err_from_is_err_and c.from_residual.result c.from_residual.ensures.1 in
-    rw (p.1, p.2) record { reading = pinned (title_one c.args.text.now) (off c.in_err-check_length.ensures.reading.reads); name_lies = tt; ahead = tt }
+    rw (p.1, p.2) (pinned (title_one _ _) (off c.in_err-want.ensures.reading.reads))
 
-pub returns-in_err-opened : goal.returns-in_err-opened
-returns-in_err-opened c =
-    let p = err_from_is_err_and c.from_residual-in_err-opened.result c.from_residual-in_err-opened.ensures.1 in
-    rw (p.1, p.2) record { reading = pinned (title_one c.args.text.now) (on c.in_ok-check_length.ensures.reading.reads (off c.in_err-opened.ensures.reading.reads)); name_lies = tt; ahead = tt }
+pub returns-in_err-want_word-clause-reading : goal.returns-in_err-want_word-clause-reading
+returns-in_err-want_word-clause-reading c =
+    let p = err_from_is_err_and c.from_residual-in_err-want_word.result c.from_residual-in_err-want_word.ensures.1 in
+    let a = c.in_ok-want.ensures in
+    let x = rw a.text_stays at c.in_err-want_word.ensures.reading.reads in
+    rw (p.1, p.2) (pinned (title_one _ _) (on a.reading.reads (off x)))
 
-pub returns-in_err-titled : goal.returns-in_err-titled
-returns-in_err-titled c =
-    let p = err_from_is_err_and c.from_residual-in_err-titled.result c.from_residual-in_err-titled.ensures.1 in
-    rw (p.1, p.2) record { reading = pinned (title_one c.args.text.now) (on c.in_ok-check_length.ensures.reading.reads (on c.in_ok-opened.ensures.reading.reads (off c.in_err-titled.ensures.reading.reads))); name_lies = tt; ahead = tt }
-
-pub returns-in_err-name : goal.returns-in_err-name
-returns-in_err-name c =
+pub returns-in_err-name-clause-reading : goal.returns-in_err-name-clause-reading
+returns-in_err-name-clause-reading c =
     let p = err_from_is_err_and c.from_residual-in_err-name.result c.from_residual-in_err-name.ensures.1 in
-    rw (p.1, p.2) record { reading = pinned (title_one c.args.text.now) (on c.in_ok-check_length.ensures.reading.reads (on c.in_ok-opened.ensures.reading.reads (on c.in_ok-titled.ensures.reading.reads (off c.in_err-name.ensures.reading.reads)))); name_lies = tt; ahead = tt }
+    let a = c.in_ok-want.ensures in
+    let b = c.in_ok-want_word.ensures in
+    let y = rw a.text_stays at b.reading.reads in
+    let z = rw (b.text_stays, a.text_stays) at c.in_err-name.ensures.reading.reads in
+    rw (p.1, p.2) (pinned (title_one _ _) (on a.reading.reads (on y (off z))))
 
-pub returns-in_err-to : goal.returns-in_err-to
-returns-in_err-to c =
-    let p = err_from_is_err_and c.from_residual-in_err-to.result c.from_residual-in_err-to.ensures.1 in
-    rw (p.1, p.2) record { reading = pinned (title_one c.args.text.now) (on c.in_ok-check_length.ensures.reading.reads (on c.in_ok-opened.ensures.reading.reads (on c.in_ok-titled.ensures.reading.reads (on c.in_ok-name.ensures.reading.reads (off c.in_err-to.ensures.reading.reads))))); name_lies = tt; ahead = tt }
+pub returns-in_err-want-2-clause-reading : goal.returns-in_err-want-2-clause-reading
+returns-in_err-want-2-clause-reading c =
+    let p = err_from_is_err_and c.from_residual-in_err-want-2.result c.from_residual-in_err-want-2.ensures.1 in
+    let a = c.in_ok-want.ensures in
+    let b = c.in_ok-want_word.ensures in
+    let n = c.in_ok-name.ensures in
+    let y = rw a.text_stays at b.reading.reads in
+    let z = rw (b.text_stays, a.text_stays) at n.reading.reads in
+    let f = rw (n.text_stays, b.text_stays, a.text_stays) at c.in_err-want-2.ensures.reading.reads in
+    rw (p.1, p.2) (pinned (title_one _ _) (on a.reading.reads (on y (on z (off f)))))
 
-pub returns : goal.returns
-returns c =
-    let l = c.in_ok-name.ensures.lies in
-    let f = c.in_ok-to.ensures.ahead in
-    record {
-      reading = pinned (title_one c.args.text.now) (on c.in_ok-check_length.ensures.reading.reads (on c.in_ok-opened.ensures.reading.reads (on c.in_ok-titled.ensures.reading.reads (on c.in_ok-name.ensures.reading.reads (on c.in_ok-to.ensures.reading.reads (refl))))));
-      name_lies = record { after = omega arith; order = l.order; inside = l.inside; some = l.some };
-      ahead = record { after = omega arith; inside = f.inside };
-    }
+pub returns-clause-reading : goal.returns-clause-reading
+returns-clause-reading c =
+    let a = c.in_ok-want.ensures in
+    let b = c.in_ok-want_word.ensures in
+    let n = c.in_ok-name.ensures in
+    let y = rw a.text_stays at b.reading.reads in
+    let z = rw (b.text_stays, a.text_stays) at n.reading.reads in
+    let f = rw (n.text_stays, b.text_stays, a.text_stays) at c.in_ok-want-2.ensures.reading.reads in
+    let s = rw (b.text_stays, a.text_stays) at n.spelling in
+    let named = named_so c.new.result (rw s (name_allowed z)) c.new.ensures.asks_letters_and_digits c.new.ensures.that_name in
+    rw (named, s) (pinned (title_one _ _) (on a.reading.reads (on y (on z (on f refl)))))
