@@ -1,5 +1,6 @@
 // Printing a judgement or a refusal to any writer.
-ghost use Rattle.std.specs.Prelude.{◌≡◌, ◌*◌, ◌<◌, min, length, take, IfOk, OnOk};
+ghost use Rattle.std.specs.Prelude.{◌≡◌, ℕ, ◌*◌, ◌<◌, min, List, replicate, take, Ok, IsOk, OnOk};
+ghost use Rattle.std.specs.Fn.{FnOnceReturnsAtMut};
 ghost use Rattle.std.specs.Io.KnownBytes.{Appends};
 ghost use Rattle.cam.specs.Refusals.{Asks, reason_number, layer_number};
 ghost use Rattle.report.specs.Text.{refused_line, largest_place, line_questions};
@@ -13,16 +14,19 @@ use cam::size::Size;
 use std::io;
 use std::io::Write;
 
-// Prints a line that was made at the front of a buffer, which 64 bytes always grant.
-fn print_line<W: Write>(
+// Makes a line in a buffer of 64 bytes, which grant every line, and prints it.
+fn print_line<W: Write, F: FnOnce(&mut [u8]) -> Result<usize, Fault>>(
     out: &mut W,
-    buffer: &[u8; 64],
-    made: Result<usize, Fault>,
+    make: F,
 ) -> io::Result<()>
-    requires granted { Asks (line_questions 64) made }
-    ensures line_appended { OnOk result (IfOk made (λ n. Appends (W.contents out.old) (W.contents out.new) (take n buffer.now))) }
+    requires callable { F.IsAlwaysCallable make }
+    requires granted { (r : _) (new : _) → FnOnceReturnsAtMut F.FnOnce make (replicate 64 0) r new → IsOk r }
+    ensures line_appended { OnOk result ((n : ℕ) × (new : List ℕ) × FnOnceReturnsAtMut F.FnOnce make (replicate 64 0) (Ok n) new × Appends (W.contents out.old) (W.contents out.new) (take n new)) }
 {
-    let Ok(length) = made else { unreachable!() };
+    let mut buffer = [0u8; 64];
+    let Ok(length) = make(&mut buffer) else {
+        unreachable!()
+    };
     out.write_all(&buffer[..length.min(64)])
 }
 
@@ -43,9 +47,7 @@ fn print_cell<W: Write>(out: &mut W, size: Size, place: usize, byte: u8) -> io::
             number: (place % width) as u8,
         },
     };
-    let mut buffer = [0u8; 64];
-    let made = cell_line(&mut buffer, cell, byte);
-    print_line(out, &buffer, made)
+    print_line(out, |buffer| cell_line(buffer, cell, byte))
 }
 
 // Prints a line for each cell whose byte of a chart is above 0.
@@ -63,13 +65,13 @@ fn print_cells<W: Write>(out: &mut W, size: Size, chart: &[u8]) -> io::Result<()
 pub fn print_judgement<W: Write>(out: &mut W, judgement: Judgement, chart: &[u8]) -> io::Result<()>
     ensures lines_appended { OnOk result (Appends (W.contents out.old) (W.contents out.new) (judgement_lines judgement chart.now)) }
 {
-    let mut buffer = [0u8; 64];
-    let made = array_line(&mut buffer, judgement.size);
-    print_line(out, &buffer, made)?;
-    let made = run_line(&mut buffer, judgement.operations, judgement.finding.count());
-    print_line(out, &buffer, made)?;
-    let made = chart_line(&mut buffer, judgement.charting, judgement.blemished);
-    print_line(out, &buffer, made)?;
+    print_line(out, |buffer| array_line(buffer, judgement.size))?;
+    print_line(out, |buffer| {
+        run_line(buffer, judgement.operations, judgement.finding.count())
+    })?;
+    print_line(out, |buffer| {
+        chart_line(buffer, judgement.charting, judgement.blemished)
+    })?;
     print_cells(out, judgement.size, chart)
 }
 
@@ -77,7 +79,5 @@ pub fn print_judgement<W: Write>(out: &mut W, judgement: Judgement, chart: &[u8]
 pub fn print_refused<W: Write>(out: &mut W, fault: Fault) -> io::Result<()>
     ensures line_appended { OnOk result (Appends (W.contents out.old) (W.contents out.new) (refused_line (reason_number fault.reason) (layer_number fault.layer) (min fault.place largest_place))) }
 {
-    let mut buffer = [0u8; 64];
-    let made = refused_line(&mut buffer, fault);
-    print_line(out, &buffer, made)
+    print_line(out, |buffer| refused_line(buffer, fault))
 }
