@@ -1,4 +1,5 @@
-pub mod Choosing
 pub mod Numbers
+pub mod CellWords
 pub mod Cells
+pub mod LineWords
 pub mod Lines

@@ -4,9 +4,8 @@ use Rattle.std.specs.Str.Parse.{digits_value}
 use Rattle.cam.specs.declared.fault.Reason.{Reason}
 use Rattle.cam.specs.declared.fault.Fault.{Fault}
 use Rattle.march.specs.Every.{every}
-use Rattle.words.specs.declared.token.Token.{Token}
-use Rattle.words.specs.Lexing.{bytes_of}
-use Rattle.words.specs.Readings.{Then}
+use Rattle.words.specs.Lexing.{Token, bytes_of}
+use Rattle.words.specs.Readings.{Then, Gathered, gathered}
 use Rattle.words.specs.Forms.{not_wanted, meaning_fault, NameNext}
 use Rattle.array_lines.specs.declared.number.Number.{Number}
 
@@ -22,17 +21,17 @@ abbrev pub numeral : List ℕ → ℕ
 numeral w = digits_value 10 w
 
 -- a word is wanted that is a number
-pub data WantsNumber (text : List ℕ) (t : Token) : Result Number Fault → Type 0 where
-  number : is_numeral (bytes_of text t) ≡ true → WantsNumber text t (Ok (record { value = numeral (bytes_of text t); from = t.from; to = t.to }))
+pub data WantsNumber (text : List ℕ) (t : Token) : Result (Gathered Number) Fault → Type 0 where
+  number : is_numeral (bytes_of text t) ≡ true → WantsNumber text t (Ok (gathered (record { value = numeral (bytes_of text t); from = t.from }) t.to))
   no_number : is_numeral (bytes_of text t) ≡ false → WantsNumber text t (Err (not_wanted t.from))
 
-abbrev pub NumberNext : List ℕ → ℕ → Result Number Fault → Type 0
+abbrev pub NumberNext : List ℕ → ℕ → Result (Gathered Number) Fault → Type 0
 NumberNext text a = Then (NameNext text a) (WantsNumber text)
 
 -- a number is asked to be `least` or more, and below `limit`; the fault is at the number
-pub data Bounded (least limit : ℕ) (reason : Reason) (n : Number) : Result Number Fault → Type 0 where
-  within : least ≤ n.value → n.value < limit → Bounded least limit reason n (Ok n)
-  outside : (least ≤ n.value → n.value < limit → ⊥) → Bounded least limit reason n (Err (meaning_fault reason n.from))
+pub data Bounded (least limit : ℕ) (reason : Reason) (n : Gathered Number) : Result (Gathered ℕ) Fault → Type 0 where
+  within : least ≤ n.value.value → n.value.value < limit → Bounded least limit reason n (Ok (gathered n.value.value n.to))
+  outside : (least ≤ n.value.value → n.value.value < limit → ⊥) → Bounded least limit reason n (Err (meaning_fault reason n.value.from))
 
-abbrev pub NumberWithin : ℕ → ℕ → Reason → List ℕ → ℕ → Result Number Fault → Type 0
+abbrev pub NumberWithin : ℕ → ℕ → Reason → List ℕ → ℕ → Result (Gathered ℕ) Fault → Type 0
 NumberWithin least limit reason text a = Then (NumberNext text a) (Bounded least limit reason)

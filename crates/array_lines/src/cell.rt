@@ -1,39 +1,31 @@
 // What a line says of a cell or of a mark.
-ghost use Rattle.std.specs.Prelude.{◌≤◌, length, IfOk};
-ghost use Rattle.words.specs.Forms.{Ahead};
-ghost use Rattle.words.specs.Readings.{Reading};
-ghost use Rattle.array_lines.specs.Cells.{CellWordNext, CellFault, CellNext, MarkNext};
+ghost use Rattle.std.specs.Prelude.{◌≡◌, ◌≤◌};
+ghost use Rattle.words.specs.Readings.{Reading, come_to};
+ghost use Rattle.array_lines.specs.CellWords.{cell_spelling, cell_words_differ};
+ghost use Rattle.array_lines.specs.Cells.{CellFaultNext, CellNext, MarkNext};
 
 use crate::number::number_within;
 use cam::defect::{Pair, StorageDefect};
 use cam::fault::{Fault, Reason};
-use cam::index::{ColumnIndex, WordIndex};
-use words::form::{bit_word, not_wanted, spells};
-use words::token::next_token;
+use cam::index::{CellIndex, ColumnIndex, WordIndex};
+use cam::size::Size;
+use words::cursor::Cursor;
+use words::form::Spelled;
 
 // A defect that a line describes: the storage of a cell, a pair in the wrong set of a cell, or a stuck mark.
 #[derive(Clone, Copy)]
 pub enum Defect {
     Storage {
-        word: WordIndex,
-        column: ColumnIndex,
+        cell: CellIndex,
         defect: StorageDefect,
     },
     Wrong {
-        word: WordIndex,
-        column: ColumnIndex,
+        cell: CellIndex,
         pair: Pair,
     },
     Mark {
         word: WordIndex,
     },
-}
-
-// A defect that was read, and the place after its last word.
-#[derive(Clone, Copy)]
-pub struct Described {
-    pub defect: Defect,
-    pub to: usize,
 }
 
 // The word that says what is wrong with a cell.
@@ -43,102 +35,65 @@ pub enum CellWord {
     Wrong,
 }
 
-// Such a word, and the place after it.
-#[derive(Clone, Copy)]
-pub struct CellHead {
-    pub word: CellWord,
-    pub to: usize,
+impl Spelled for CellWord {
+    ghost spelling = { cell_spelling };
+
+    fn spelled(word: &[u8]) -> Option<CellWord> {
+        match word {
+            b"sa0" => Some(CellWord::Storage(StorageDefect::Sa0)),
+            b"sa1" => Some(CellWord::Storage(StorageDefect::Sa1)),
+            b"norise" => Some(CellWord::Storage(StorageDefect::NoRise)),
+            b"nofall" => Some(CellWord::Storage(StorageDefect::NoFall)),
+            b"wrong" => Some(CellWord::Wrong),
+            _ => None,
+        }
+    }
+
+    ghost differ = { cell_words_differ };
 }
 
-// Reads the word that says what is wrong with a cell.
-fn read_cell_word(text: &[u8], at: usize) -> Result<CellHead, Fault>
-    requires starts_inside { at ≤ length text.now }
-    ensures reading { Reading (CellWordNext text.now at) result }
-    ensures ahead { IfOk result (λ h. Ahead text.now at h.to) }
+// Reads what is wrong with a cell: a word, and after `wrong` the held bit and the comparand bit.
+fn read_cell_fault(cursor: &mut Cursor, cell: CellIndex) -> Result<Defect, Fault>
+    ensures reading { Reading (CellFaultNext cursor.old.text.now cell cursor.old.at) (come_to cursor.new.at result) }
+    ensures text_stays { cursor.new.text.now ≡ cursor.old.text.now }
+    ensures goes_on { cursor.old.at ≤ cursor.new.at }
 {
-    let token = next_token(text, at)?;
-    let word = if spells(text, token, b"sa0") {
-        CellWord::Storage(StorageDefect::Sa0)
-    } else if spells(text, token, b"sa1") {
-        CellWord::Storage(StorageDefect::Sa1)
-    } else if spells(text, token, b"norise") {
-        CellWord::Storage(StorageDefect::NoRise)
-    } else if spells(text, token, b"nofall") {
-        CellWord::Storage(StorageDefect::NoFall)
-    } else if spells(text, token, b"wrong") {
-        CellWord::Wrong
-    } else {
-        return Err(not_wanted(token.from));
-    };
-    Ok(CellHead { word, to: token.to })
-}
-
-// Reads what follows that word: after `wrong` the held bit and the comparand bit.
-fn read_cell_fault(
-    text: &[u8],
-    head: CellHead,
-    word: WordIndex,
-    column: ColumnIndex,
-) -> Result<Described, Fault>
-    requires head_inside { head.to ≤ length text.now }
-    ensures reading { Reading (CellFault text.now word column head.word head.to) result }
-    ensures ahead { IfOk result (λ d. Ahead text.now head.to d.to) }
-{
-    match head.word {
-        CellWord::Storage(defect) => Ok(Described {
-            defect: Defect::Storage {
-                word,
-                column,
-                defect,
-            },
-            to: head.to,
-        }),
+    match cursor.one_of::<CellWord>()? {
+        CellWord::Storage(defect) => Ok(Defect::Storage { cell, defect }),
         CellWord::Wrong => {
-            let held = bit_word(text, head.to)?;
-            let comparand = bit_word(text, held.to)?;
-            let pair = Pair {
-                held: held.value,
-                comparand: comparand.value,
-            };
-            Ok(Described {
-                defect: Defect::Wrong { word, column, pair },
-                to: comparand.to,
-            })
+            let held = cursor.bit_word()?;
+            let comparand = cursor.bit_word()?;
+            let pair = Pair { held, comparand };
+            Ok(Defect::Wrong { cell, pair })
         }
     }
 }
 
-// Reads what follows the word `cell`, up to the place after the last word: word and column of an array of this size,
-// each inside it (42), and what is wrong.
-pub(crate) fn read_cell(text: &[u8], at: usize, words: u16, width: u8) -> Result<Described, Fault>
-    requires starts_inside { at ≤ length text.now }
-    ensures reading { Reading (CellNext words width text.now at) result }
-    ensures ahead { IfOk result (λ d. Ahead text.now at d.to) }
+// Reads what follows the word `cell`: word and column of an array of this size, each inside it (42), and what is wrong.
+pub(crate) fn read_cell(cursor: &mut Cursor, size: Size) -> Result<Defect, Fault>
+    ensures reading { Reading (CellNext size.words size.width cursor.old.text.now cursor.old.at) (come_to cursor.new.at result) }
+    ensures text_stays { cursor.new.text.now ≡ cursor.old.text.now }
+    ensures goes_on { cursor.old.at ≤ cursor.new.at }
 {
-    let word = number_within(text, at, 0, words, Reason::OutsideArray)?;
-    let column = number_within(text, word.to, 0, width as u16, Reason::OutsideArray)?;
-    let head = read_cell_word(text, column.to)?;
-    read_cell_fault(
-        text,
-        head,
-        WordIndex { number: word.value },
-        ColumnIndex {
-            number: column.value as u8,
+    let word = number_within(cursor, 0..size.words, Reason::OutsideArray)?;
+    let column = number_within(cursor, 0..u16::from(size.width), Reason::OutsideArray)?;
+    let cell = CellIndex {
+        word: WordIndex { number: word },
+        column: ColumnIndex {
+            number: column as u8,
         },
-    )
+    };
+    read_cell_fault(cursor, cell)
 }
 
 // Reads what follows the word `mark`: a word of an array of so many (42).
-pub(crate) fn read_mark(text: &[u8], at: usize, words: u16) -> Result<Described, Fault>
-    requires starts_inside { at ≤ length text.now }
-    ensures reading { Reading (MarkNext words text.now at) result }
-    ensures ahead { IfOk result (λ d. Ahead text.now at d.to) }
+pub(crate) fn read_mark(cursor: &mut Cursor, words: u16) -> Result<Defect, Fault>
+    ensures reading { Reading (MarkNext words cursor.old.text.now cursor.old.at) (come_to cursor.new.at result) }
+    ensures text_stays { cursor.new.text.now ≡ cursor.old.text.now }
+    ensures goes_on { cursor.old.at ≤ cursor.new.at }
 {
-    let word = number_within(text, at, 0, words, Reason::OutsideArray)?;
-    Ok(Described {
-        defect: Defect::Mark {
-            word: WordIndex { number: word.value },
-        },
-        to: word.to,
+    let word = number_within(cursor, 0..words, Reason::OutsideArray)?;
+    Ok(Defect::Mark {
+        word: WordIndex { number: word },
     })
 }

@@ -1,14 +1,15 @@
 // A whole line: a cell, a mark or a remark, with its line feed.
-ghost use Rattle.std.specs.Prelude.{◌≤◌, length, IfOk};
-ghost use Rattle.words.specs.Forms.{Ahead};
-ghost use Rattle.words.specs.Readings.{Reading};
-ghost use Rattle.array_lines.specs.Lines.{LineWordNext, Closed, LineBody, LineNext};
+ghost use Rattle.std.specs.Prelude.{◌≡◌, ◌≤◌};
+ghost use Rattle.words.specs.Readings.{Reading, come_to};
+ghost use Rattle.array_lines.specs.LineWords.{line_spelling, line_words_differ};
+ghost use Rattle.array_lines.specs.Lines.{BodyNext, LineNext};
 
-use crate::cell::{Defect, Described, read_cell, read_mark};
+use crate::cell::{Defect, read_cell, read_mark};
 use cam::fault::Fault;
-use words::form::{not_wanted, spells, want};
-use words::remark::outermost_remark;
-use words::token::{Kind, next_token};
+use cam::size::Size;
+use words::cursor::Cursor;
+use words::form::Spelled;
+use words::token::Kind;
 
 // The word that a line begins with.
 #[derive(Clone, Copy)]
@@ -18,85 +19,46 @@ pub enum LineWord {
     Mark,
 }
 
-// Such a word, and the place after it.
-#[derive(Clone, Copy)]
-pub struct LineHead {
-    pub word: LineWord,
-    pub to: usize,
-}
+impl Spelled for LineWord {
+    ghost spelling = { line_spelling };
 
-// The defect of a line, none of a remark, and the place after it.
-#[derive(Clone, Copy)]
-pub struct Line {
-    pub defect: Option<Defect>,
-    pub to: usize,
-}
-
-// Reads the word that a line begins with.
-fn read_line_word(text: &[u8], at: usize) -> Result<LineHead, Fault>
-    requires starts_inside { at ≤ length text.now }
-    ensures reading { Reading (LineWordNext text.now at) result }
-    ensures ahead { IfOk result (λ h. Ahead text.now at h.to) }
-{
-    let token = next_token(text, at)?;
-    let word = if spells(text, token, b"note") {
-        LineWord::Note
-    } else if spells(text, token, b"cell") {
-        LineWord::Cell
-    } else if spells(text, token, b"mark") {
-        LineWord::Mark
-    } else {
-        return Err(not_wanted(token.from));
-    };
-    Ok(LineHead { word, to: token.to })
-}
-
-// Reads the closing bracket of a line with a defect.
-fn closed(text: &[u8], described: Described) -> Result<Line, Fault>
-    requires starts_inside { described.to ≤ length text.now }
-    ensures reading { Reading (Closed text.now described) result }
-    ensures ahead { IfOk result (λ l. Ahead text.now described.to l.to) }
-{
-    let to = want(text, described.to, Kind::Close)?;
-    Ok(Line {
-        defect: Some(described.defect),
-        to,
-    })
-}
-
-// Reads what follows the word of a line, up to the place after its closing bracket.
-fn read_line_body(text: &[u8], head: LineHead, words: u16, width: u8) -> Result<Line, Fault>
-    requires head_inside { head.to ≤ length text.now }
-    ensures reading { Reading (LineBody words width text.now head.word head.to) result }
-    ensures ahead { IfOk result (λ l. Ahead text.now head.to l.to) }
-{
-    match head.word {
-        LineWord::Note => {
-            let to = outermost_remark(text, head.to)?;
-            Ok(Line { defect: None, to })
-        }
-        LineWord::Cell => {
-            let cell = read_cell(text, head.to, words, width)?;
-            closed(text, cell)
-        }
-        LineWord::Mark => {
-            let mark = read_mark(text, head.to, words)?;
-            closed(text, mark)
+    fn spelled(word: &[u8]) -> Option<LineWord> {
+        match word {
+            b"note" => Some(LineWord::Note),
+            b"cell" => Some(LineWord::Cell),
+            b"mark" => Some(LineWord::Mark),
+            _ => None,
         }
     }
+
+    ghost differ = { line_words_differ };
 }
 
-// Reads a line of the text of an array of this size from after its opening bracket, up to the place after its line feed.
-pub fn read_line(text: &[u8], at: usize, words: u16, width: u8) -> Result<Line, Fault>
-    requires starts_inside { at ≤ length text.now }
-    ensures reading { Reading (LineNext words width text.now at) result }
-    ensures ahead { IfOk result (λ l. Ahead text.now at l.to) }
+// Reads a line up to its closing bracket: its defect, and none of a remark.
+fn read_line_body(cursor: &mut Cursor, size: Size) -> Result<Option<Defect>, Fault>
+    ensures reading { Reading (BodyNext size.words size.width cursor.old.text.now cursor.old.at) (come_to cursor.new.at result) }
+    ensures text_stays { cursor.new.text.now ≡ cursor.old.text.now }
+    ensures goes_on { cursor.old.at ≤ cursor.new.at }
 {
-    let head = read_line_word(text, at)?;
-    let line = read_line_body(text, head, words, width)?;
-    let to = want(text, line.to, Kind::LineFeed)?;
-    Ok(Line {
-        defect: line.defect,
-        to,
-    })
+    let defect = match cursor.one_of::<LineWord>()? {
+        LineWord::Note => {
+            cursor.outermost_remark()?;
+            return Ok(None);
+        }
+        LineWord::Cell => read_cell(cursor, size)?,
+        LineWord::Mark => read_mark(cursor, size.words)?,
+    };
+    cursor.want(Kind::Close)?;
+    Ok(Some(defect))
+}
+
+// Reads a line of the text of an array of this size from after its opening bracket, with its line feed.
+pub fn read_line(cursor: &mut Cursor, size: Size) -> Result<Option<Defect>, Fault>
+    ensures reading { Reading (LineNext size.words size.width cursor.old.text.now cursor.old.at) (come_to cursor.new.at result) }
+    ensures text_stays { cursor.new.text.now ≡ cursor.old.text.now }
+    ensures goes_on { cursor.old.at ≤ cursor.new.at }
+{
+    let defect = read_line_body(cursor, size)?;
+    cursor.want(Kind::LineFeed)?;
+    Ok(defect)
 }

@@ -1,29 +1,21 @@
 // Numbers of an array text: words of 1 to 4 digits.
-ghost use Rattle.std.specs.Prelude.{◌≡◌, ◌≤◌, true, false, length, IfOk, MatchOption};
-ghost use Rattle.words.specs.Forms.{Ahead};
-ghost use Rattle.words.specs.Readings.{Reading};
-ghost use Rattle.array_lines.specs.Numbers.{is_digit, is_numeral, numeral, NumberNext, NumberWithin};
+ghost use Rattle.std.specs.Prelude.{◌≡◌, ◌≤◌, true, false, MatchOption};
+ghost use Rattle.words.specs.Readings.{Reading, come_to};
+ghost use Rattle.array_lines.specs.Numbers.{is_numeral, numeral, NumberNext, NumberWithin};
 
-use cam::fault::{Fault, Layer, Reason};
-use words::form::{any_word, not_wanted};
+use cam::fault::{Fault, Reason};
+use std::ops::Range;
+use words::cursor::Cursor;
+use words::form::not_wanted;
+use words::meaning::meaning_fault;
 
 const MOST_DIGITS: usize = 4;
 
-// A number, and its bytes in the text: those from `from` up to `to`.
+// A number, and the place of its first digit.
 #[derive(Clone, Copy)]
 pub struct Number {
     pub value: u16,
     pub from: usize,
-    pub to: usize,
-}
-
-fn is_digit(byte: u8) -> bool
-    ensures digit { result ≡ is_digit byte }
-{
-    match byte {
-        b'0'..=b'9' => true,
-        _ => false,
-    }
 }
 
 // The number that the digits write; none where there are too many, or where a byte is no digit.
@@ -35,48 +27,39 @@ fn numeral_value(word: &[u8]) -> Option<u16>
     }
     let mut value: u16 = 0;
     for byte in word {
-        if !is_digit(*byte) {
+        if !byte.is_ascii_digit() {
             return None;
         }
-        value = value * 10 + (*byte - b'0') as u16;
+        value = value * 10 + u16::from(*byte - b'0');
     }
     Some(value)
 }
 
 // Reads a number.
-fn read_number(text: &[u8], at: usize) -> Result<Number, Fault>
-    requires starts_inside { at ≤ length text.now }
-    ensures reading { Reading (NumberNext text.now at) result }
-    ensures ahead { IfOk result (λ n. Ahead text.now at n.to) }
+fn read_number(cursor: &mut Cursor) -> Result<Number, Fault>
+    ensures reading { Reading (NumberNext cursor.old.text.now cursor.old.at) (come_to cursor.new.at result) }
+    ensures text_stays { cursor.new.text.now ≡ cursor.old.text.now }
+    ensures goes_on { cursor.old.at ≤ cursor.new.at }
 {
-    let token = any_word(text, at)?;
-    let from = token.from;
-    let to = token.to;
-    match numeral_value(&text[from..to]) {
-        Some(value) => Ok(Number { value, from, to }),
-        None => Err(not_wanted(from)),
-    }
+    let word = cursor.any_word()?;
+    let from = word.from;
+    let value = numeral_value(word.bytes).ok_or(not_wanted(from))?;
+    Ok(Number { value, from })
 }
 
-// Reads a number, and asks whether it is `least` or more and below `limit`; else it is refused for this reason.
+// Reads a number, and asks whether it is within these limits; else it is refused for this reason.
 pub fn number_within(
-    text: &[u8],
-    at: usize,
-    least: u16,
-    limit: u16,
+    cursor: &mut Cursor,
+    limits: Range<u16>,
     reason: Reason,
-) -> Result<Number, Fault>
-    requires starts_inside { at ≤ length text.now }
-    ensures reading { Reading (NumberWithin least limit reason text.now at) result }
-    ensures ahead { IfOk result (λ n. Ahead text.now at n.to) }
+) -> Result<u16, Fault>
+    ensures reading { Reading (NumberWithin limits.start limits.end reason cursor.old.text.now cursor.old.at) (come_to cursor.new.at result) }
+    ensures text_stays { cursor.new.text.now ≡ cursor.old.text.now }
+    ensures goes_on { cursor.old.at ≤ cursor.new.at }
 {
-    let number = read_number(text, at)?;
-    if number.value < least || number.value >= limit {
-        return Err(Fault {
-            reason,
-            layer: Layer::Meaning,
-            place: number.from,
-        });
+    let number = read_number(cursor)?;
+    if !limits.contains(&number.value) {
+        return Err(meaning_fault(reason, number.from));
     }
-    Ok(number)
+    Ok(number.value)
 }

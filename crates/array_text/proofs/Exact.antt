@@ -7,13 +7,14 @@ use Rattle.cam.specs.declared.defect.Storage.{Storage as How}
 use Rattle.cam.specs.declared.defect.Storage.TheVariants.{Good, Sa0, Sa1, NoRise, NoFall}
 use Rattle.cam.specs.declared.defect.StorageDefect.{StorageDefect}
 use Rattle.cam.specs.declared.defect.StorageDefect.TheVariants as defect
+use Rattle.cam.specs.declared.index.CellIndex.{CellIndex}
 use Rattle.cam.specs.declared.index.WordIndex.{WordIndex}
-use Rattle.cam.specs.declared.index.ColumnIndex.{ColumnIndex}
 use Rattle.cam.specs.Defects.{same_cell, storage_with, is_good}
 use Rattle.cam.proofs.Below.{split}
 use Rattle.array_lines.specs.declared.cell.Defect.{Defect}
 use Rattle.array_lines.specs.declared.cell.Defect.TheVariants.{Storage, Wrong, Mark}
-use Rattle.array_text.specs.Meaning.{some, says_wrong, says_stuck, storage_in, build_with, word, column, pair, Exactly}
+use Rattle.array_lines.specs.Cells.{cell}
+use Rattle.array_text.specs.Meaning.{some, says_wrong, says_stuck, storage_in, build_with, word, pair, Exactly}
 use Rattle.array_text.specs.Left.{Distinct}
 use Rattle.array_text.proofs.OneMore.{said_storage, same_cell_lem}
 
@@ -52,35 +53,35 @@ not_good defect.Sa1 = refl
 not_good defect.NoRise = refl
 not_good defect.NoFall = refl
 
-same_storage : (k i : ℕ) (s t : StorageDefect) (a : WordIndex) (j : ColumnIndex) → k ≡ a.number → i ≡ j.number → s ≡ t → Storage (word k) (column i) s ≡ Storage a j t
-same_storage k i s t a j p q r = λ d. Storage (record { number = p d }) (record { number = q d }) (r d)
+same_storage : (k i : ℕ) (s t : StorageDefect) (c : CellIndex) → k ≡ c.word.number → i ≡ c.column.number → s ≡ t → Storage (cell k i) s ≡ Storage c t
+same_storage k i s t c p q r = λ d. Storage (cell (p d) (q d)) (r d)
 
-storage_found : (ds : List Defect) (k i : ℕ) (s : StorageDefect) → storage_in ds k i ≡ storage_with s → Memᴰ (Storage (word k) (column i) s) ds
+storage_found : (ds : List Defect) (k i : ℕ) (s : StorageDefect) → storage_in ds k i ≡ storage_with s → Memᴰ (Storage (cell k i) s) ds
 storage_found [] k i s e = absurd (true≢false (ap is_good e ∙ not_good s))
-storage_found (Storage a j t ∷ ds) k i s e =
-    split (same_cell a.number j.number k i)
-    (λ y. let p = same_cell_lem a.number j.number k i y in
-    Memᴰ.head (same_storage k i s t a j p.0 p.1 (sym (defect_back s) ∙ ap defect_of (sym e ∙ cond-true _ _ _ y) ∙ defect_back t)))
+storage_found (Storage c t ∷ ds) k i s e =
+    split (same_cell c.word.number c.column.number k i)
+    (λ y. let p = same_cell_lem c.word.number c.column.number k i y in
+    Memᴰ.head (same_storage k i s t c p.0 p.1 (sym (defect_back s) ∙ ap defect_of (sym e ∙ cond-true _ _ _ y) ∙ defect_back t)))
     (λ n. Memᴰ.tail (storage_found ds k i s (sym (cond-false _ _ _ n) ∙ e)))
-storage_found (Wrong a j p ∷ ds) k i s e = Memᴰ.tail (storage_found ds k i s e)
+storage_found (Wrong c p ∷ ds) k i s e = Memᴰ.tail (storage_found ds k i s e)
 storage_found (Mark a ∷ ds) k i s e = Memᴰ.tail (storage_found ds k i s e)
 
 -- the first of the list
-storage_first : (d : Defect) (ds : List Defect) (k i : ℕ) (s : StorageDefect) → Storage (word k) (column i) s ≡ d → storage_in (d ∷ ds) k i ≡ storage_with s
+storage_first : (d : Defect) (ds : List Defect) (k i : ℕ) (s : StorageDefect) → Storage (cell k i) s ≡ d → storage_in (d ∷ ds) k i ≡ storage_with s
 storage_first d ds k i s e = subst (λ d. storage_in (d ∷ ds) k i ≡ storage_with s) e (cond-true _ _ _ (self_cell k i))
 
-storage_there : (ds : List Defect) → Distinct ds → (k i : ℕ) (s : StorageDefect) → Memᴰ (Storage (word k) (column i) s) ds → storage_in ds k i ≡ storage_with s
+storage_there : (ds : List Defect) → Distinct ds → (k i : ℕ) (s : StorageDefect) → Memᴰ (Storage (cell k i) s) ds → storage_in ds k i ≡ storage_with s
 storage_there [] o k i s m = absurd (Memᴰ.not-nil m)
-storage_there (Storage a j t ∷ ds) o k i s m =
-    ⊎_elim (storage_first (Storage a j t) ds k i s)
+storage_there (Storage c t ∷ ds) o k i s m =
+    ⊎_elim (storage_first (Storage c t) ds k i s)
     (λ m. let rest = storage_there ds o.1 k i s m in
-    split (same_cell a.number j.number k i)
-    (λ y. let p = same_cell_lem a.number j.number k i y in
-    let good : is_good (storage_in ds a.number j.number) ≡ false = ap₂ (λ k i. is_good (storage_in ds k i)) (sym p.0) (sym p.1) ∙ ap is_good rest ∙ not_good s in
-    absurd (true≢false (sym (said_storage ds a.number j.number ∙ ap not good) ∙ o.0)))
+    split (same_cell c.word.number c.column.number k i)
+    (λ y. let p = same_cell_lem c.word.number c.column.number k i y in
+    let good : is_good (storage_in ds c.word.number c.column.number) ≡ false = ap₂ (λ k i. is_good (storage_in ds k i)) (sym p.0) (sym p.1) ∙ ap is_good rest ∙ not_good s in
+    absurd (true≢false (sym (said_storage ds c.word.number c.column.number ∙ ap not good) ∙ o.0)))
     (λ n. cond-false _ _ _ n ∙ rest))
     (Memᴰ.cases_cons m)
-storage_there (Wrong a j p ∷ ds) o k i s m = ⊎_elim (storage_first (Wrong a j p) ds k i s) (storage_there ds o.1 k i s) (Memᴰ.cases_cons m)
+storage_there (Wrong c p ∷ ds) o k i s m = ⊎_elim (storage_first (Wrong c p) ds k i s) (storage_there ds o.1 k i s) (Memᴰ.cases_cons m)
 storage_there (Mark a ∷ ds) o k i s m = ⊎_elim (storage_first (Mark a) ds k i s) (storage_there ds o.1 k i s) (Memᴰ.cases_cons m)
 
 same_bit : (x y : Bool) → cond x y (not y) ≡ true → y ≡ x
@@ -92,20 +93,20 @@ self_bit : (x : Bool) → cond x x (not x) ≡ true
 self_bit true = refl
 self_bit false = refl
 
-says_wrong_lem : (d : Defect) (k i : ℕ) (h b : Bool) → says_wrong k i h b d ≡ true → Wrong (word k) (column i) (pair h b) ≡ d
-says_wrong_lem (Storage a j s) k i h b e = absurd (true≢false (sym e))
-says_wrong_lem (Wrong a j p) k i h b e =
+says_wrong_lem : (d : Defect) (k i : ℕ) (h b : Bool) → says_wrong k i h b d ≡ true → Wrong (cell k i) (pair h b) ≡ d
+says_wrong_lem (Storage c s) k i h b e = absurd (true≢false (sym e))
+says_wrong_lem (Wrong c p) k i h b e =
     let x = and_parts _ _ e in
-    let c = same_cell_lem a.number j.number k i x.0 in
+    let at = same_cell_lem c.word.number c.column.number k i x.0 in
     let y = and_parts _ _ x.1 in
     let f = same_bit p.held h y.0 in
     let g = same_bit p.comparand b y.1 in
-    λ d. Wrong (record { number = c.0 d }) (record { number = c.1 d }) (record { held = f d; comparand = g d })
+    λ d. Wrong (cell (at.0 d) (at.1 d)) (record { held = f d; comparand = g d })
 says_wrong_lem (Mark a) k i h b e = absurd (true≢false (sym e))
 
 says_stuck_lem : (d : Defect) (k : ℕ) → says_stuck k d ≡ true → Mark (word k) ≡ d
-says_stuck_lem (Storage a j s) k e = absurd (true≢false (sym e))
-says_stuck_lem (Wrong a j p) k e = absurd (true≢false (sym e))
+says_stuck_lem (Storage c s) k e = absurd (true≢false (sym e))
+says_stuck_lem (Wrong c p) k e = absurd (true≢false (sym e))
 says_stuck_lem (Mark a) k e = let p = eqb-true k a.number e in λ d. Mark (record { number = p d })
 
 pub exactly : (N W : ℕ) (ds : List Defect) → Distinct ds → Exactly ds (build_with N W ds)
@@ -114,7 +115,7 @@ exactly N W ds o =
       storage = λ k i s. (storage_found ds k i s, storage_there ds o k i s);
       wrong = λ k i h b. (
         λ e. let x = some_found (says_wrong k i h b) ds e in Memᴰ.cast (says_wrong_lem x.0 k i h b x.1.1) x.1.0,
-        some_there (says_wrong k i h b) (Wrong (word k) (column i) (pair h b)) ds (and_from _ _ (self_cell k i) (and_from _ _ (self_bit h) (self_bit b))),
+        some_there (says_wrong k i h b) (Wrong (cell k i) (pair h b)) ds (and_from _ _ (self_cell k i) (and_from _ _ (self_bit h) (self_bit b))),
       );
       stuck = λ k. (
         λ e. let x = some_found (says_stuck k) ds e in Memᴰ.cast (says_stuck_lem x.0 k x.1.1) x.1.0,

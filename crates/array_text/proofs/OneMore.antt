@@ -8,8 +8,8 @@ use Rattle.cam.specs.declared.defect.Storage.TheVariants.{Good, Sa0, Sa1, NoRise
 use Rattle.cam.specs.declared.defect.StorageDefect.{StorageDefect}
 use Rattle.cam.specs.declared.defect.StorageDefect.TheVariants as defect
 use Rattle.cam.specs.declared.fault.Fault.{Fault}
+use Rattle.cam.specs.declared.index.CellIndex.{CellIndex}
 use Rattle.cam.specs.declared.index.WordIndex.{WordIndex}
-use Rattle.cam.specs.declared.index.ColumnIndex.{ColumnIndex}
 use Rattle.cam.specs.Model.{State}
 use Rattle.cam.specs.Defects.{same_cell, storage_with, is_good, has_cell, has_word, with_storage, settled, settled_bit, with_pair, with_stuck_mark, unmarked}
 use Rattle.cam.specs.Refusals.{ask, first_no, Refused}
@@ -43,8 +43,8 @@ head_storage false s x y e = e
 -- a cell has a storage line exactly when it does not store well
 pub said_storage : (ds : List Defect) (k i : ℕ) → some (says_storage k i) ds ≡ not (is_good (storage_in ds k i))
 said_storage [] k i = refl
-said_storage (Storage a j s ∷ ds) k i = head_storage (same_cell a.number j.number k i) s _ _ (said_storage ds k i)
-said_storage (Wrong a j p ∷ ds) k i = said_storage ds k i
+said_storage (Storage c s ∷ ds) k i = head_storage (same_cell c.word.number c.column.number k i) s _ _ (said_storage ds k i)
+said_storage (Wrong c p ∷ ds) k i = said_storage ds k i
 said_storage (Mark a ∷ ds) k i = said_storage ds k i
 
 pub same_cell_lem : (a j k i : ℕ) → same_cell a j k i ≡ true → (k ≡ a) × (i ≡ j)
@@ -68,12 +68,12 @@ settle_at true s y g = ap (λ z. settled_bit (storage_with s) (is_sa1 z)) (g ref
 settle_at false s y g = refl
 
 -- a cell that stored well, and holds 0, gets its storage
-settle_state : (N W : ℕ) (ds : List Defect) (a : WordIndex) (j : ColumnIndex) (s : StorageDefect) → storage_in ds a.number j.number ≡ Good
-    → settled a.number j.number (storage_with s) (new_state (build_with N W ds)) ≡ new_state (build_with N W (Storage a j s ∷ ds))
-settle_state N W ds a j s good =
+settle_state : (N W : ℕ) (ds : List Defect) (c : CellIndex) (s : StorageDefect) → storage_in ds c.word.number c.column.number ≡ Good
+    → settled c.word.number c.column.number (storage_with s) (new_state (build_with N W ds)) ≡ new_state (build_with N W (Storage c s ∷ ds))
+settle_state N W ds c s good =
     ap {B = State} (λ h. record { held = h; mark = λ k. false; tally = 0 })
-    (fun_ext (λ k. fun_ext (λ i. settle_at (same_cell a.number j.number k i) s (storage_in ds k i)
-    (λ e. let p = same_cell_lem a.number j.number k i e in ap₂ (storage_in ds) p.0 p.1 ∙ good))))
+    (fun_ext (λ k. fun_ext (λ i. settle_at (same_cell c.word.number c.column.number k i) s (storage_in ds k i)
+    (λ e. let p = same_cell_lem c.word.number c.column.number k i e in ap₂ (storage_in ds) p.0 p.1 ∙ good))))
 
 unmark_state : (N W : ℕ) (ds : List Defect) (a : WordIndex) → unmarked a.number (new_state (build_with N W ds)) ≡ new_state (build_with N W (Mark a ∷ ds))
 unmark_state N W ds a =
@@ -83,56 +83,56 @@ module _ (N W : ℕ) (ds : List Defect) (p q : PlaneArray) (h : Holds N W ds p) 
   cell_there : (a j : ℕ) → a < N → j < W → has_cell (build_of p) a j ≡ true
   cell_there a j l m = ap (λ B. has_cell B a j) h.build ∙ and_from (ltb a N) (ltb j W) (lt-ltb a N l) (lt-ltb j W m)
 
-  pub storage_planted : (a : WordIndex) (j : ColumnIndex) (s : StorageDefect) → Inside N W (Storage a j s)
-      → first_no (ask (has_cell (build_of p) a.number j.number) 42 ∷ ask (is_good ((build_of p).storage a.number j.number)) 43 ∷ []) ≡ 0
-      → build_of q ≡ with_storage a.number j.number (storage_with s) (build_of p)
-      → state_of q ≡ settled a.number j.number (storage_with s) (state_of p)
-      → (some (repeats (Storage a j s)) ds ≡ false) × Holds N W (Storage a j s ∷ ds) q
-  storage_planted a j s i asks b t =
-      let good : is_good (storage_in ds a.number j.number) ≡ true = ap (λ B. is_good (B.storage a.number j.number)) (sym h.build) ∙ second_yes _ _ asks in
-      let fresh : some (says_storage a.number j.number) ds ≡ false = said_storage ds a.number j.number ∙ ap not good in (
+  pub storage_planted : (c : CellIndex) (s : StorageDefect) → Inside N W (Storage c s)
+      → first_no (ask (has_cell (build_of p) c.word.number c.column.number) 42 ∷ ask (is_good ((build_of p).storage c.word.number c.column.number)) 43 ∷ []) ≡ 0
+      → build_of q ≡ with_storage c.word.number c.column.number (storage_with s) (build_of p)
+      → state_of q ≡ settled c.word.number c.column.number (storage_with s) (state_of p)
+      → (some (repeats (Storage c s)) ds ≡ false) × Holds N W (Storage c s ∷ ds) q
+  storage_planted c s i asks b t =
+      let good : is_good (storage_in ds c.word.number c.column.number) ≡ true = ap (λ B. is_good (B.storage c.word.number c.column.number)) (sym h.build) ∙ second_yes _ _ asks in
+      let fresh : some (says_storage c.word.number c.column.number) ds ≡ false = said_storage ds c.word.number c.column.number ∙ ap not good in (
         fresh,
         record {
-          build = b ∙ ap (with_storage a.number j.number (storage_with s)) h.build;
-          state = t ∙ ap (settled a.number j.number (storage_with s)) h.state ∙ settle_state N W ds a j s (good_is _ good);
+          build = b ∙ ap (with_storage c.word.number c.column.number (storage_with s)) h.build;
+          state = t ∙ ap (settled c.word.number c.column.number (storage_with s)) h.state ∙ settle_state N W ds c s (good_is _ good);
           distinct = (fresh, h.distinct);
           inside = (i, h.inside);
         },
       )
 
-  pub storage_repeated : (a : WordIndex) (j : ColumnIndex) (s : StorageDefect) (f : Fault) → a.number < N → j.number < W
-      → Refused (first_no (ask (has_cell (build_of p) a.number j.number) 42 ∷ ask (is_good ((build_of p).storage a.number j.number)) 43 ∷ [])) f
-      → some (repeats (Storage a j s)) ds ≡ true
-  storage_repeated a j s f l m r =
-      said_storage ds a.number j.number
-      ∙ ap not (ap (λ B. is_good (B.storage a.number j.number)) (sym h.build) ∙ second_no _ _ f (cell_there a.number j.number l m) r)
+  pub storage_repeated : (c : CellIndex) (s : StorageDefect) (f : Fault) → c.word.number < N → c.column.number < W
+      → Refused (first_no (ask (has_cell (build_of p) c.word.number c.column.number) 42 ∷ ask (is_good ((build_of p).storage c.word.number c.column.number)) 43 ∷ [])) f
+      → some (repeats (Storage c s)) ds ≡ true
+  storage_repeated c s f l m r =
+      said_storage ds c.word.number c.column.number
+      ∙ ap not (ap (λ B. is_good (B.storage c.word.number c.column.number)) (sym h.build) ∙ second_no _ _ f (cell_there c.word.number c.column.number l m) r)
 
   not_not : (b : Bool) (t : Bool) → not b ≡ t → b ≡ not t
   not_not true t e = ap not e
   not_not false t e = ap not e
 
-  pub pair_planted : (a : WordIndex) (j : ColumnIndex) (x : Pair) → Inside N W (Wrong a j x)
-      → first_no (ask (has_cell (build_of p) a.number j.number) 42 ∷ ask (not ((build_of p).wrong a.number j.number x.held x.comparand)) 43 ∷ []) ≡ 0
-      → build_of q ≡ with_pair a.number j.number x.held x.comparand (build_of p)
+  pub pair_planted : (c : CellIndex) (x : Pair) → Inside N W (Wrong c x)
+      → first_no (ask (has_cell (build_of p) c.word.number c.column.number) 42 ∷ ask (not ((build_of p).wrong c.word.number c.column.number x.held x.comparand)) 43 ∷ []) ≡ 0
+      → build_of q ≡ with_pair c.word.number c.column.number x.held x.comparand (build_of p)
       → state_of q ≡ state_of p
-      → (some (repeats (Wrong a j x)) ds ≡ false) × Holds N W (Wrong a j x ∷ ds) q
-  pair_planted a j x i asks b t =
-      let fresh : some (says_wrong a.number j.number x.held x.comparand) ds ≡ false =
-      ap (λ B. B.wrong a.number j.number x.held x.comparand) (sym h.build) ∙ not_not _ true (second_yes _ _ asks) in (
+      → (some (repeats (Wrong c x)) ds ≡ false) × Holds N W (Wrong c x ∷ ds) q
+  pair_planted c x i asks b t =
+      let fresh : some (says_wrong c.word.number c.column.number x.held x.comparand) ds ≡ false =
+      ap (λ B. B.wrong c.word.number c.column.number x.held x.comparand) (sym h.build) ∙ not_not _ true (second_yes _ _ asks) in (
         fresh,
         record {
-          build = b ∙ ap (with_pair a.number j.number x.held x.comparand) h.build;
+          build = b ∙ ap (with_pair c.word.number c.column.number x.held x.comparand) h.build;
           state = t ∙ h.state;
           distinct = (fresh, h.distinct);
           inside = (i, h.inside);
         },
       )
 
-  pub pair_repeated : (a : WordIndex) (j : ColumnIndex) (x : Pair) (f : Fault) → a.number < N → j.number < W
-      → Refused (first_no (ask (has_cell (build_of p) a.number j.number) 42 ∷ ask (not ((build_of p).wrong a.number j.number x.held x.comparand)) 43 ∷ [])) f
-      → some (repeats (Wrong a j x)) ds ≡ true
-  pair_repeated a j x f l m r =
-      ap (λ B. B.wrong a.number j.number x.held x.comparand) (sym h.build) ∙ not_not _ false (second_no _ _ f (cell_there a.number j.number l m) r)
+  pub pair_repeated : (c : CellIndex) (x : Pair) (f : Fault) → c.word.number < N → c.column.number < W
+      → Refused (first_no (ask (has_cell (build_of p) c.word.number c.column.number) 42 ∷ ask (not ((build_of p).wrong c.word.number c.column.number x.held x.comparand)) 43 ∷ [])) f
+      → some (repeats (Wrong c x)) ds ≡ true
+  pair_repeated c x f l m r =
+      ap (λ B. B.wrong c.word.number c.column.number x.held x.comparand) (sym h.build) ∙ not_not _ false (second_no _ _ f (cell_there c.word.number c.column.number l m) r)
 
   pub mark_planted : (a : WordIndex) → Inside N W (Mark a)
       → first_no (ask (has_word (build_of p) a.number) 42 ∷ ask (not ((build_of p).stuck a.number)) 43 ∷ []) ≡ 0

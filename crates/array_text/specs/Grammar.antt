@@ -3,16 +3,15 @@ use Rattle.std.specs.Prelude.{◌≡◌, ℕ, ◌<◌, ◌≤◌, true, false, L
 use Rattle.cam.specs.declared.fault.Reason.TheVariants.{SizeOutsideLimits, DefectRepeated, BufferTooShort}
 use Rattle.cam.specs.declared.fault.Layer.TheVariants.{Call}
 use Rattle.cam.specs.declared.fault.Fault.{Fault}
+use Rattle.cam.specs.declared.size.Size.{Size}
 use Rattle.words.specs.declared.token.Kind.TheVariants.{Open, LineFeed, End}
-use Rattle.words.specs.declared.token.Token.{Token}
-use Rattle.words.specs.Lexing.{Measured}
-use Rattle.words.specs.Readings.{Then}
+use Rattle.words.specs.Lexing.{Token, Measured}
+use Rattle.words.specs.Readings.{Then, Gathered, gathered}
 use Rattle.words.specs.Forms.{meaning_fault, Next, WordNext}
-use Rattle.words.specs.Listings.{Gathered, gathered, Listing}
+use Rattle.words.specs.Listings.{Listing}
 use Rattle.array_lines.specs.declared.cell.Defect.{Defect}
 use Rattle.array_lines.specs.Numbers.{NumberWithin}
 use Rattle.array_lines.specs.Lines.{LineNext}
-use Rattle.array_text.specs.declared.size.Size.{Size}
 use Rattle.array_text.specs.Meaning.{some, repeats}
 
 -- what a text says: words, bits of a word, and the defects of its lines, the last line first
@@ -22,15 +21,15 @@ pub record Description : Type 0 where
   pub defects : List Defect
 
 -- 1 to 256 words and 1 to 64 bits, each asked where it stands, then a line feed
-abbrev pub SizeNext : List ℕ → ℕ → Result Size Fault → Type 0
+abbrev pub SizeNext : List ℕ → ℕ → Result (Gathered Size) Fault → Type 0
 SizeNext text a =
     Then (NumberWithin 1 257 SizeOutsideLimits text a) (λ n.
     Then (NumberWithin 1 65 SizeOutsideLimits text n.to) (λ w.
     Then (Next LineFeed text w.to)
-    (λ e r. r ≡ Ok (record { words = n.value; width = w.value; to = e }))))
+    (λ e r. r ≡ Ok (gathered (record { words = n.value; width = w.value }) e))))
 
 -- the text is short enough, and begins with `(array`
-abbrev pub FirstLine : List ℕ → Result Size Fault → Type 0
+abbrev pub FirstLine : List ℕ → Result (Gathered Size) Fault → Type 0
 FirstLine text =
     Then (Measured text) (λ _.
     Then (Next Open text 0) (λ a.
@@ -46,9 +45,13 @@ abbrev pub AddsLine : List Defect → ℕ → ℕ → Option Defect → Result (
 AddsLine ds p e None = λ r. r ≡ Ok (gathered ds e)
 AddsLine ds p e (Some d) = Adds ds p e d
 
--- the line that the bracket t opens; whether it repeats a defect is asked when its line feed was read
+-- the line from after its bracket on, which stood at p; whether it repeats a defect is asked when its line feed was read
+abbrev pub LineAfter : ℕ → ℕ → List ℕ → List Defect → ℕ → ℕ → Result (Gathered (List Defect)) Fault → Type 0
+LineAfter N W text ds p a = Then (LineNext N W text a) (λ l. AddsLine ds p l.to l.value)
+
+-- the line that the bracket t opens
 abbrev pub LineAt : ℕ → ℕ → List ℕ → List Defect → Token → Result (Gathered (List Defect)) Fault → Type 0
-LineAt N W text ds t = Then (LineNext N W text t.to) (λ l. AddsLine ds t.from l.to l.defect)
+LineAt N W text ds t = LineAfter N W text ds t.from t.to
 
 -- after the defects ds, what follows at `a` gives: lines, up to the closing bracket of the text
 abbrev pub Lines : ℕ → ℕ → List ℕ → List Defect → ℕ → Result (Gathered (List Defect)) Fault → Type 0
@@ -65,8 +68,8 @@ Rest N W text a =
 abbrev pub ArrayText : List ℕ → Result Description Fault → Type 0
 ArrayText text =
     Then (FirstLine text) (λ s.
-    Then (Rest s.words s.width text s.to)
-    (λ ds r. r ≡ Ok (record { words = s.words; width = s.width; defects = ds })))
+    Then (Rest s.value.words s.value.width text s.to)
+    (λ ds r. r ≡ Ok (record { words = s.value.words; width = s.value.width; defects = ds })))
 
 -- before a text is read, memory is asked for: so many records or bytes
 pub data Memory (needed lent : ℕ) : Result (Unit {0}) Fault → Type 0 where

@@ -2,7 +2,7 @@
 use Rattle.std.specs.Prelude.{◌≡◌, ℕ, true, false, List, [], ◌∷◌, Ok, Err, Result}
 use Rattle.cam.specs.declared.fault.Reason.TheVariants.{DefectRepeated}
 use Rattle.cam.specs.declared.fault.Fault.{Fault}
-use Rattle.words.specs.Listings.{Gathered, gathered}
+use Rattle.words.specs.Readings.{Gathered, gathered}
 use Rattle.planes.specs.declared.array.PlaneArray.{PlaneArray}
 use Rattle.planes.specs.Planes.{build_of, state_of}
 use Rattle.array_lines.specs.declared.cell.Defect.{Defect}

@@ -6,12 +6,11 @@ use Rattle.cam.specs.declared.defect.Storage.{Storage as How}
 use Rattle.cam.specs.declared.defect.Storage.TheVariants.{Good, Sa0, Sa1, NoRise, NoFall}
 use Rattle.cam.specs.declared.defect.StorageDefect.{StorageDefect}
 use Rattle.cam.specs.declared.index.WordIndex.{WordIndex}
-use Rattle.cam.specs.declared.index.ColumnIndex.{ColumnIndex}
 use Rattle.cam.specs.Model.{Build, State}
 use Rattle.cam.specs.Defects.{same_cell, is_pair, storage_with}
 use Rattle.array_lines.specs.declared.cell.Defect.{Defect}
 use Rattle.array_lines.specs.declared.cell.Defect.TheVariants.{Storage, Wrong, Mark}
-use Rattle.array_lines.specs.Cells.{Inside}
+use Rattle.array_lines.specs.Cells.{Inside, cell}
 
 -- whether f holds of some item
 abbrev pub some : {X : Type 0} → (X → Bool) → List X → Bool
@@ -20,33 +19,33 @@ some f (x ∷ xs) = f x || some f xs
 
 -- whether a line says how cell (k, i) stores
 abbrev pub says_storage : ℕ → ℕ → Defect → Bool
-says_storage k i (Storage a j s) = same_cell a.number j.number k i
-says_storage k i (Wrong a j p) = false
+says_storage k i (Storage c s) = same_cell c.word.number c.column.number k i
+says_storage k i (Wrong c p) = false
 says_storage k i (Mark a) = false
 
 -- whether it says that the pair (h, b) is in the wrong set of cell (k, i)
 abbrev pub says_wrong : ℕ → ℕ → Bool → Bool → Defect → Bool
-says_wrong k i h b (Storage a j s) = false
-says_wrong k i h b (Wrong a j p) = same_cell a.number j.number k i && is_pair p.held p.comparand h b
+says_wrong k i h b (Storage c s) = false
+says_wrong k i h b (Wrong c p) = same_cell c.word.number c.column.number k i && is_pair p.held p.comparand h b
 says_wrong k i h b (Mark a) = false
 
 -- whether it says that the mark of word k is stuck
 abbrev pub says_stuck : ℕ → Defect → Bool
-says_stuck k (Storage a j s) = false
-says_stuck k (Wrong a j p) = false
+says_stuck k (Storage c s) = false
+says_stuck k (Wrong c p) = false
 says_stuck k (Mark a) = k == a.number
 
 -- whether a line repeats an earlier one: a second storage line for the cell, the same pair, or the same mark
 abbrev pub repeats : Defect → Defect → Bool
-repeats (Storage a j s) = says_storage a.number j.number
-repeats (Wrong a j p) = says_wrong a.number j.number p.held p.comparand
+repeats (Storage c s) = says_storage c.word.number c.column.number
+repeats (Wrong c p) = says_wrong c.word.number c.column.number p.held p.comparand
 repeats (Mark a) = says_stuck a.number
 
 -- how cell (k, i) stores: as its storage line says, and well without one
 abbrev pub storage_in : List Defect → ℕ → ℕ → How
 storage_in [] k i = Good
-storage_in (Storage a j s ∷ ds) k i = cond (same_cell a.number j.number k i) (storage_with s) (storage_in ds k i)
-storage_in (Wrong a j p ∷ ds) k i = storage_in ds k i
+storage_in (Storage c s ∷ ds) k i = cond (same_cell c.word.number c.column.number k i) (storage_with s) (storage_in ds k i)
+storage_in (Wrong c p ∷ ds) k i = storage_in ds k i
 storage_in (Mark a ∷ ds) k i = storage_in ds k i
 
 -- every defect lies inside an array of N words of W bits
@@ -79,14 +78,11 @@ new_state B = record { held = λ k j. is_sa1 (B.storage k j); mark = λ k. false
 abbrev pub word : ℕ → WordIndex
 word k = record { number = k }
 
-abbrev pub column : ℕ → ColumnIndex
-column i = record { number = i }
-
 abbrev pub pair : Bool → Bool → Pair
 pair h b = record { held = h; comparand = b }
 
 -- each defect of the list is in the array, and no other (`Memᴰ d ds` says that d is one of ds)
 pub record Exactly (ds : List Defect) (B : Build) : Type 0 where
-  pub storage : (k i : ℕ) (s : StorageDefect) → (B.storage k i ≡ storage_with s) ↔ Memᴰ (Storage (word k) (column i) s) ds
-  pub wrong : (k i : ℕ) (h b : Bool) → (B.wrong k i h b ≡ true) ↔ Memᴰ (Wrong (word k) (column i) (pair h b)) ds
+  pub storage : (k i : ℕ) (s : StorageDefect) → (B.storage k i ≡ storage_with s) ↔ Memᴰ (Storage (cell k i) s) ds
+  pub wrong : (k i : ℕ) (h b : Bool) → (B.wrong k i h b ≡ true) ↔ Memᴰ (Wrong (cell k i) (pair h b)) ds
   pub stuck : (k : ℕ) → (B.stuck k ≡ true) ↔ Memᴰ (Mark (word k)) ds

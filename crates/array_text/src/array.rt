@@ -6,11 +6,13 @@ ghost use Rattle.words.specs.Readings.{Reading};
 ghost use Rattle.array_text.specs.Grammar.{ArrayCall};
 ghost use Rattle.array_text.specs.Texts.{Means, HandedBack};
 
+use crate::first_line::read_first_line;
 use crate::lines::add_rest;
-use crate::size::{Size, read_first_line};
 use cam::fault::{Fault, Reason};
+use cam::size::Size;
 use planes::array::{NotMade, PlaneArray};
 use planes::word::WordRecord;
+use words::cursor::Cursor;
 
 // The most records that an array needs.
 pub const RECORDS: usize = 256;
@@ -22,13 +24,34 @@ pub struct NotRead {
     pub fault: Fault,
 }
 
+// Of an array that was not made, the records and the reason.
+impl From<NotMade> for NotRead {
+    ghost from_gives = { λ not_made not_read. (not_read.records ≡ not_made.records) × (not_read.fault ≡ not_made.fault) };
+
+    fn from(not_made: NotMade) -> NotRead {
+        NotRead {
+            records: not_made.records,
+            fault: not_made.fault,
+        }
+    }
+}
+
+// Of an array that was not read, the reason alone.
+impl From<NotRead> for Fault {
+    ghost from_gives = { λ not_read fault. fault ≡ not_read.fault };
+
+    fn from(not_read: NotRead) -> Fault {
+        not_read.fault
+    }
+}
+
 // Ends an array in the making, and hands its records back with those of its words blank.
 fn given_up(array: PlaneArray, size: Size) -> Vec<WordRecord>
     ensures words_blank_others_stay { within_limits size.words size.width ≡ true → size.words ≤ vec_len array.records → result.items ≡ blanked size.words array.records.items }
 {
-    match PlaneArray::new(array.into_records(), size.words, size.width) {
+    match PlaneArray::new(array.into_records(), size) {
         Ok(blank) => blank.into_records(),
-        Err(NotMade { records, fault: _ }) => records,
+        Err(not_made) => not_made.records,
     }
 }
 
@@ -47,15 +70,14 @@ pub fn read_array(text: &[u8], records: Vec<WordRecord>) -> Result<PlaneArray, N
             fault: Fault::of_call(Reason::BufferTooShort),
         });
     }
-    let size = match read_first_line(text) {
+    let mut cursor = Cursor::new(text);
+    let size = match read_first_line(&mut cursor) {
         Ok(size) => size,
+        // the records go back with the fault, which a closure of `map_err` could not give and leave them here too
         Err(fault) => return Err(NotRead { records, fault }),
     };
-    let mut array = match PlaneArray::new(records, size.words, size.width) {
-        Ok(array) => array,
-        Err(NotMade { records, fault }) => return Err(NotRead { records, fault }),
-    };
-    match add_rest(text, size, &mut array) {
+    let mut array = PlaneArray::new(records, size)?;
+    match add_rest(&mut cursor, size, &mut array) {
         Ok(()) => Ok(array),
         Err(fault) => Err(NotRead {
             records: given_up(array, size),

@@ -3,6 +3,6 @@
 #![tactic(auto)]
 
 pub mod array;
+pub mod first_line;
 pub mod lines;
 pub mod planting;
-pub mod size;

@@ -27,11 +27,11 @@ not_good defect.NoFall = refl
 -- a sound array has no defect of the list
 none : (ds : List Defect) (B : Build) → AllInside B.words B.width ds → Exactly ds B → Sound B → ds ≡ []
 none [] B i e s = refl
-none (Storage a j t ∷ ds) B i e s =
-    let bad = (e.storage a.number j.number t).1 (Memᴰ.head refl) in
-    absurd (true≢false (ap is_good (sym (s.good a.number j.number i.0.0 i.0.1) ∙ bad) ∙ not_good t))
-none (Wrong a j p ∷ ds) B i e s =
-    absurd (true≢false (sym ((e.wrong a.number j.number p.held p.comparand).1 (Memᴰ.head refl)) ∙ s.right a.number j.number i.0.0 i.0.1 p.held p.comparand))
+none (Storage c t ∷ ds) B i e s =
+    let bad = (e.storage c.word.number c.column.number t).1 (Memᴰ.head refl) in
+    absurd (true≢false (ap is_good (sym (s.good c.word.number c.column.number i.0.0 i.0.1) ∙ bad) ∙ not_good t))
+none (Wrong c p ∷ ds) B i e s =
+    absurd (true≢false (sym ((e.wrong c.word.number c.column.number p.held p.comparand).1 (Memᴰ.head refl)) ∙ s.right c.word.number c.column.number i.0.0 i.0.1 p.held p.comparand))
 none (Mark a ∷ ds) B i e s =
     absurd (true≢false (sym ((e.stuck a.number).1 (Memᴰ.head refl)) ∙ s.free a.number i.0))
 

@@ -5,7 +5,7 @@ ghost use Rattle.array_text.specs.Texts.{HandedBack};
 ghost use Rattle.text_judge.specs.Judging.{JudgeCall, TextJudged};
 
 use array_text::array::{NotRead, read_array};
-use bench::judging::{Judged, NotJudged, judge_array};
+use bench::judging::{Judged, judge_array};
 use cam::fault::{Fault, Reason};
 use planes::array::PlaneArray;
 use planes::word::WordRecord;
@@ -33,15 +33,9 @@ pub fn judge_text(
             fault: Fault::of_call(Reason::BufferTooShort),
         });
     }
-    let array = match read_array(text, records) {
-        Ok(array) => array,
-        Err(refused) => return Err(refused),
-    };
-    match judge_array(array, chart) {
-        Ok(judged) => Ok(judged),
-        Err(NotJudged { array, fault }) => Err(NotRead {
-            records: array.into_records(),
-            fault,
-        }),
-    }
+    let array = read_array(text, records)?;
+    judge_array(array, chart).map_err(|not_judged| NotRead {
+        records: not_judged.array.into_records(),
+        fault: not_judged.fault,
+    })
 }
