@@ -26,5 +26,5 @@ cell_back (Storage storage.NoRise) = refl
 cell_back (Storage storage.NoFall) = refl
 cell_back Wrong = refl
 
-abbrev pub cell_words_differ : (v w : CellWord) → cell_spelling v ≡ cell_spelling w → v ≡ w
+pub cell_words_differ : (v w : CellWord) → cell_spelling v ≡ cell_spelling w → v ≡ w
 cell_words_differ = told_apart cell_spelling cell_word cell_back

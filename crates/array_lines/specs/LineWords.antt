@@ -18,5 +18,5 @@ line_back Note = refl
 line_back Cell = refl
 line_back Mark = refl
 
-abbrev pub line_words_differ : (v w : LineWord) → line_spelling v ≡ line_spelling w → v ≡ w
+pub line_words_differ : (v w : LineWord) → line_spelling v ≡ line_spelling w → v ≡ w
 line_words_differ = told_apart line_spelling line_word line_back

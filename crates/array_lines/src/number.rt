@@ -48,11 +48,7 @@ fn read_number(cursor: &mut Cursor) -> Result<Number, Fault>
 }
 
 // Reads a number, and asks whether it is within these limits; else it is refused for this reason.
-pub fn number_within(
-    cursor: &mut Cursor,
-    limits: Range<u16>,
-    reason: Reason,
-) -> Result<u16, Fault>
+pub fn number_within(cursor: &mut Cursor, limits: Range<u16>, reason: Reason) -> Result<u16, Fault>
     ensures reading { Reading (NumberWithin limits.start limits.end reason cursor.old.text.now cursor.old.at) (come_to cursor.new.at result) }
     ensures text_stays { cursor.new.text.now ≡ cursor.old.text.now }
     ensures goes_on { cursor.old.at ≤ cursor.new.at }

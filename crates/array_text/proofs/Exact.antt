@@ -8,7 +8,6 @@ use Rattle.cam.specs.declared.defect.Storage.TheVariants.{Good, Sa0, Sa1, NoRise
 use Rattle.cam.specs.declared.defect.StorageDefect.{StorageDefect}
 use Rattle.cam.specs.declared.defect.StorageDefect.TheVariants as defect
 use Rattle.cam.specs.declared.index.CellIndex.{CellIndex}
-use Rattle.cam.specs.declared.index.WordIndex.{WordIndex}
 use Rattle.cam.specs.Defects.{same_cell, storage_with, is_good}
 use Rattle.cam.proofs.Below.{split}
 use Rattle.array_lines.specs.declared.cell.Defect.{Defect}

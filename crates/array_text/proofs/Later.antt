@@ -20,16 +20,16 @@ keeps_on p q r x y =
 blanked_later : (n : ℕ) (rs : List WordRecord) → n ≤ length rs → drop n (blanked n rs) ≡ drop n rs
 blanked_later n rs l = drop_at (map (λ r. blank_record) (take n rs)) (drop n rs) n (length-map (take n rs) (λ r. blank_record) ∙ length-take-le n rs l)
 
-module _ (n : ℕ) (p q : PlaneArray) (rs : List WordRecord) (k : KeepsLater p q) (e : vec_items p.records ≡ blanked n rs) (l : n ≤ length rs) (w : p.words ≡ n) where
+module _ (n : ℕ) (p q : PlaneArray) (rs : List WordRecord) (k : KeepsLater p q) (e : vec_items p.records ≡ blanked n rs) (l : n ≤ length rs) (w : p.size.words ≡ n) where
   -- an array that was made of the records rs, and then changed inside
   pub later_of : drop n (vec_items q.records) ≡ drop n rs
   later_of =
       ap (λ (m : ℕ). drop m (vec_items q.records)) (sym w) ∙ k.later ∙ ap (λ (m : ℕ). drop m (vec_items p.records)) w
       ∙ ap (drop n) e ∙ blanked_later n rs l
 
-  pub later_words : drop q.words (vec_items q.records) ≡ drop q.words rs
+  pub later_words : drop q.size.words (vec_items q.records) ≡ drop q.size.words rs
   later_words =
-      let same : q.words ≡ n = k.words ∙ w in
+      let same : q.size.words ≡ n = k.words ∙ w in
       ap (λ (m : ℕ). drop m (vec_items q.records)) same ∙ later_of ∙ ap (λ (m : ℕ). drop m rs) (sym same)
 
 const_map : {X : Type 0} (b : WordRecord) (xs : List X) → map (λ x. b) xs ≡ replicate (length xs) b

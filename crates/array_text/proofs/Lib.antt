@@ -1,4 +1,5 @@
 pub mod Ones
 pub mod OneMore
+pub mod Leaving
 pub mod Exact
 pub mod Later

@@ -1,5 +1,5 @@
 -- One more defect in an array that has those of a list. Assumes nothing.
-use Rattle.std.proofs.Common.{◌≡◌, ℕ, ◌<◌, Bool, true, false, cond, not, ◌||◌, eqb, ltb, List, [], ◌∷◌, sym, refl, ap, ◌∙◌, ap₂, arith}
+use Rattle.std.proofs.Common.{◌≡◌, ℕ, ◌<◌, Bool, true, false, cond, not, ◌||◌, eqb, ltb, List, [], ◌∷◌, Ok, Err, Result, MatchResult, IsErrAnd, sym, refl, ap, ◌∙◌, subst, ap₂, arith}
 use mathlib.Core.Path.{fun_ext}
 use Rattle.std.proofs.lemmas.Bool.{and_parts, and_right, and_from, eqb-true, lt-ltb, true≢false}
 use Rattle.cam.specs.declared.defect.Pair.{Pair}
@@ -7,20 +7,22 @@ use Rattle.cam.specs.declared.defect.Storage.{Storage as How}
 use Rattle.cam.specs.declared.defect.Storage.TheVariants.{Good, Sa0, Sa1, NoRise, NoFall}
 use Rattle.cam.specs.declared.defect.StorageDefect.{StorageDefect}
 use Rattle.cam.specs.declared.defect.StorageDefect.TheVariants as defect
+use Rattle.cam.specs.declared.fault.Reason.TheVariants.{DefectRepeated}
 use Rattle.cam.specs.declared.fault.Fault.{Fault}
 use Rattle.cam.specs.declared.index.CellIndex.{CellIndex}
 use Rattle.cam.specs.declared.index.WordIndex.{WordIndex}
 use Rattle.cam.specs.Model.{State}
 use Rattle.cam.specs.Defects.{same_cell, storage_with, is_good, has_cell, has_word, with_storage, settled, settled_bit, with_pair, with_stuck_mark, unmarked}
-use Rattle.cam.specs.Refusals.{ask, first_no, Refused}
+use Rattle.cam.specs.Refusals.{ask, first_no, Asks, Refused}
 use Rattle.cam.proofs.Asking.{refused_not_0, both_yes}
+use Rattle.words.specs.Forms.{meaning_fault}
 use Rattle.planes.specs.declared.array.PlaneArray.{PlaneArray}
 use Rattle.planes.specs.Planes.{build_of, state_of}
 use Rattle.array_lines.specs.declared.cell.Defect.{Defect}
 use Rattle.array_lines.specs.declared.cell.Defect.TheVariants.{Storage, Wrong, Mark}
 use Rattle.array_lines.specs.Cells.{Inside}
 use Rattle.array_text.specs.Meaning.{some, says_storage, says_wrong, says_stuck, repeats, storage_in, build_with, is_sa1, new_state}
-use Rattle.array_text.specs.Left.{Holds}
+use Rattle.array_text.specs.Left.{Holds, PlantingLeaves}
 
 -- how the second of two questions was answered
 second_yes : (p q : Bool) → first_no (ask p 42 ∷ ask q 43 ∷ []) ≡ 0 → q ≡ true
@@ -83,7 +85,7 @@ module _ (N W : ℕ) (ds : List Defect) (p q : PlaneArray) (h : Holds N W ds p) 
   cell_there : (a j : ℕ) → a < N → j < W → has_cell (build_of p) a j ≡ true
   cell_there a j l m = ap (λ B. has_cell B a j) h.build ∙ and_from (ltb a N) (ltb j W) (lt-ltb a N l) (lt-ltb j W m)
 
-  pub storage_planted : (c : CellIndex) (s : StorageDefect) → Inside N W (Storage c s)
+  storage_planted : (c : CellIndex) (s : StorageDefect) → Inside N W (Storage c s)
       → first_no (ask (has_cell (build_of p) c.word.number c.column.number) 42 ∷ ask (is_good ((build_of p).storage c.word.number c.column.number)) 43 ∷ []) ≡ 0
       → build_of q ≡ with_storage c.word.number c.column.number (storage_with s) (build_of p)
       → state_of q ≡ settled c.word.number c.column.number (storage_with s) (state_of p)
@@ -100,7 +102,7 @@ module _ (N W : ℕ) (ds : List Defect) (p q : PlaneArray) (h : Holds N W ds p) 
         },
       )
 
-  pub storage_repeated : (c : CellIndex) (s : StorageDefect) (f : Fault) → c.word.number < N → c.column.number < W
+  storage_repeated : (c : CellIndex) (s : StorageDefect) (f : Fault) → c.word.number < N → c.column.number < W
       → Refused (first_no (ask (has_cell (build_of p) c.word.number c.column.number) 42 ∷ ask (is_good ((build_of p).storage c.word.number c.column.number)) 43 ∷ [])) f
       → some (repeats (Storage c s)) ds ≡ true
   storage_repeated c s f l m r =
@@ -111,7 +113,7 @@ module _ (N W : ℕ) (ds : List Defect) (p q : PlaneArray) (h : Holds N W ds p) 
   not_not true t e = ap not e
   not_not false t e = ap not e
 
-  pub pair_planted : (c : CellIndex) (x : Pair) → Inside N W (Wrong c x)
+  pair_planted : (c : CellIndex) (x : Pair) → Inside N W (Wrong c x)
       → first_no (ask (has_cell (build_of p) c.word.number c.column.number) 42 ∷ ask (not ((build_of p).wrong c.word.number c.column.number x.held x.comparand)) 43 ∷ []) ≡ 0
       → build_of q ≡ with_pair c.word.number c.column.number x.held x.comparand (build_of p)
       → state_of q ≡ state_of p
@@ -128,13 +130,13 @@ module _ (N W : ℕ) (ds : List Defect) (p q : PlaneArray) (h : Holds N W ds p) 
         },
       )
 
-  pub pair_repeated : (c : CellIndex) (x : Pair) (f : Fault) → c.word.number < N → c.column.number < W
+  pair_repeated : (c : CellIndex) (x : Pair) (f : Fault) → c.word.number < N → c.column.number < W
       → Refused (first_no (ask (has_cell (build_of p) c.word.number c.column.number) 42 ∷ ask (not ((build_of p).wrong c.word.number c.column.number x.held x.comparand)) 43 ∷ [])) f
       → some (repeats (Wrong c x)) ds ≡ true
   pair_repeated c x f l m r =
       ap (λ B. B.wrong c.word.number c.column.number x.held x.comparand) (sym h.build) ∙ not_not _ false (second_no _ _ f (cell_there c.word.number c.column.number l m) r)
 
-  pub mark_planted : (a : WordIndex) → Inside N W (Mark a)
+  mark_planted : (a : WordIndex) → Inside N W (Mark a)
       → first_no (ask (has_word (build_of p) a.number) 42 ∷ ask (not ((build_of p).stuck a.number)) 43 ∷ []) ≡ 0
       → build_of q ≡ with_stuck_mark a.number (build_of p)
       → state_of q ≡ unmarked a.number (state_of p)
@@ -150,8 +152,44 @@ module _ (N W : ℕ) (ds : List Defect) (p q : PlaneArray) (h : Holds N W ds p) 
         },
       )
 
-  pub mark_repeated : (a : WordIndex) (f : Fault) → a.number < N
+  mark_repeated : (a : WordIndex) (f : Fault) → a.number < N
       → Refused (first_no (ask (has_word (build_of p) a.number) 42 ∷ ask (not ((build_of p).stuck a.number)) 43 ∷ [])) f
       → some (repeats (Mark a)) ds ≡ true
   mark_repeated a f l r =
       ap (λ B. B.stuck a.number) (sym h.build) ∙ not_not _ false (second_no _ _ f (ap (λ B. has_word B a.number) h.build ∙ lt-ltb a.number N l) r)
+
+  -- the defect d was planted, or an earlier one is the same
+  abbrev pub Planted : Defect → Result (Unit {0}) Fault → Type 0
+  Planted d r = MatchResult r (λ _. (some (repeats d) ds ≡ false) × Holds N W (d ∷ ds) q) (λ _. some (repeats d) ds ≡ true)
+
+  pub storage_told : (c : CellIndex) (s : StorageDefect) (r : Result (Unit {0}) Fault) → Inside N W (Storage c s)
+      → Asks (ask (has_cell (build_of p) c.word.number c.column.number) 42 ∷ ask (is_good ((build_of p).storage c.word.number c.column.number)) 43 ∷ []) r
+      → MatchResult r (λ _. build_of q ≡ with_storage c.word.number c.column.number (storage_with s) (build_of p)) (λ _. q ≡ p)
+      → MatchResult r (λ _. state_of q ≡ settled c.word.number c.column.number (storage_with s) (state_of p)) (λ _. q ≡ p)
+      → Planted (Storage c s) r
+  storage_told c s (Ok _) i asks b t = storage_planted c s i asks b t
+  storage_told c s (Err f) i asks b t = storage_repeated c s f i.0 i.1 asks
+
+  pub pair_told : (c : CellIndex) (x : Pair) (r : Result (Unit {0}) Fault) → Inside N W (Wrong c x)
+      → Asks (ask (has_cell (build_of p) c.word.number c.column.number) 42 ∷ ask (not ((build_of p).wrong c.word.number c.column.number x.held x.comparand)) 43 ∷ []) r
+      → MatchResult r (λ _. build_of q ≡ with_pair c.word.number c.column.number x.held x.comparand (build_of p)) (λ _. q ≡ p)
+      → MatchResult r (λ _. state_of q ≡ state_of p) (λ _. q ≡ p)
+      → Planted (Wrong c x) r
+  pair_told c x (Ok _) i asks b t = pair_planted c x i asks b t
+  pair_told c x (Err f) i asks b t = pair_repeated c x f i.0 i.1 asks
+
+  pub mark_told : (a : WordIndex) (r : Result (Unit {0}) Fault) → Inside N W (Mark a)
+      → Asks (ask (has_word (build_of p) a.number) 42 ∷ ask (not ((build_of p).stuck a.number)) 43 ∷ []) r
+      → MatchResult r (λ _. build_of q ≡ with_stuck_mark a.number (build_of p)) (λ _. q ≡ p)
+      → MatchResult r (λ _. state_of q ≡ unmarked a.number (state_of p)) (λ _. q ≡ p)
+      → Planted (Mark a) r
+  mark_told a (Ok _) i asks b t = mark_planted a i asks b t
+  mark_told a (Err f) i asks b t = mark_repeated a f i asks
+
+  -- and what the reader of the line answers then: `Post` is what is known of the fault that stands for the refusal
+  pub planting_left : (d : Defect) (bracket : ℕ) (Post : Fault → Fault → Type 0) (r s : Result (Unit {0}) Fault)
+      → MatchResult r (λ x. s ≡ Ok x) (λ e. IsErrAnd s (Post e)) → ((e f : Fault) → Post e f → f ≡ meaning_fault DefectRepeated bracket)
+      → Planted d r → PlantingLeaves N W ds d bracket q s
+  planting_left d bracket Post (Ok _) s m told there = subst (PlantingLeaves N W ds d bracket q) (sym m) there
+  planting_left d bracket Post (Err e) (Ok _) m told there = absurd m
+  planting_left d bracket Post (Err e) (Err f) m told there = (there, told e f m)

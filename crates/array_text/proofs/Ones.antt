@@ -1,7 +1,7 @@
 -- An array text is read in one way. Assumes nothing.
-use Rattle.std.proofs.Common.{◌≡◌, ℕ, ◌<◌, ◌≤◌, true, false, List, [], ◌∷◌, IfOk, Some, None, Ok, Err, codes, Option, Result, sym, refl, subst, arith}
+use Rattle.std.proofs.Common.{◌≡◌, ℕ, ◌<◌, ◌≤◌, true, List, [], IfOk, Some, None, Ok, codes, Option, Result, sym, refl, subst, arith}
 use Rattle.std.proofs.lemmas.Bool.{and_from, le-leb}
-use Rattle.cam.specs.declared.fault.Reason.TheVariants.{SizeOutsideLimits, DefectRepeated}
+use Rattle.cam.specs.declared.fault.Reason.TheVariants.{SizeOutsideLimits}
 use Rattle.cam.specs.declared.fault.Reason.{Reason}
 use Rattle.cam.specs.declared.fault.Layer.{Layer}
 use Rattle.cam.specs.declared.fault.Layer.TheVariants.{Call, Words, Forms, Meaning}
@@ -9,10 +9,9 @@ use Rattle.cam.specs.declared.fault.Fault.{Fault}
 use Rattle.cam.specs.Defects.{within_limits}
 use Rattle.cam.specs.Refusals.{Refused, layer_number}
 use Rattle.words.specs.declared.token.Kind.TheVariants.{Open, LineFeed, End}
-use Rattle.words.specs.declared.token.Token.{Token}
-use Rattle.words.specs.Lexing.{Measured}
-use Rattle.words.specs.Forms.{meaning_fault, Next, WordNext}
-use Rattle.words.specs.Listings.{gathered}
+use Rattle.words.specs.Lexing.{Token, Measured}
+use Rattle.words.specs.Forms.{Next, WordNext}
+use Rattle.words.specs.Readings.{Gathered, gathered}
 use Rattle.words.proofs.Rules.{One, then_one, then_made}
 use Rattle.words.proofs.Lexemes.{clash, measured_one}
 use Rattle.words.proofs.Lists.{listing_one}
@@ -21,9 +20,8 @@ use Rattle.array_lines.specs.declared.cell.Defect.{Defect}
 use Rattle.array_lines.specs.Numbers.{NumberWithin}
 use Rattle.array_lines.specs.Lines.{LineNext}
 use Rattle.array_lines.proofs.Ones.{value_one, value_made, within_one, within_least, within_below, line_one}
-use Rattle.array_text.specs.declared.size.Size.{Size}
-use Rattle.array_text.specs.Meaning.{some, repeats}
-use Rattle.array_text.specs.Grammar.{SizeNext, FirstLine, Adds, new, repeated, AddsLine, LineAt, Lines, Rest, ArrayText, Memory, enough, too_little, ArrayCall}
+use Rattle.cam.specs.declared.size.Size.{Size}
+use Rattle.array_text.specs.Grammar.{SizeNext, FirstLineNext, FirstLine, Adds, new, repeated, AddsLine, LineAt, Lines, Rest, ArrayText, Memory, enough, too_little, ArrayCall}
 
 pub size_one : (text : List ℕ) (a : ℕ) → One (SizeNext text a)
 size_one text a =
@@ -31,11 +29,11 @@ size_one text a =
     (λ n. then_one (NumberWithin 1 65 SizeOutsideLimits text n.to) _ (within_one 1 65 SizeOutsideLimits text n.to)
     (λ w. then_one (Next LineFeed text w.to) _ (next_one LineFeed text w.to) (λ e. value_one _)))
 
-pub first_line_one : (text : List ℕ) → One (FirstLine text)
-first_line_one text =
+pub first_line_one : (text : List ℕ) (a : ℕ) → One (FirstLineNext text a)
+first_line_one text a =
     then_one (Measured text) _ (measured_one text)
-    (λ _. then_one (Next Open text 0) _ (next_one Open text 0)
-    (λ a. then_one (WordNext (codes "array") text a) (SizeNext text) (word_next_one (codes "array") text a) (size_one text)))
+    (λ _. then_one (Next Open text a) _ (next_one Open text a)
+    (λ b. then_one (WordNext (codes "array") text b) (SizeNext text) (word_next_one (codes "array") text b) (size_one text)))
 
 adds_one : (ds : List Defect) (p e : ℕ) (d : Defect) → One (Adds ds p e d)
 adds_one ds p e d _ _ (new x) (new y) = refl
@@ -48,7 +46,7 @@ adds_line_one ds p e None = value_one _
 adds_line_one ds p e (Some d) = adds_one ds p e d
 
 line_at_one : (N W : ℕ) (text : List ℕ) (ds : List Defect) (t : Token) → One (LineAt N W text ds t)
-line_at_one N W text ds t = then_one (LineNext N W text t.to) _ (line_one N W text t.to) (λ l. adds_line_one ds t.from l.to l.defect)
+line_at_one N W text ds t = then_one (LineNext N W text t.to) _ (line_one N W text t.to) (λ l. adds_line_one ds t.from l.to l.value)
 
 lines_one : (N W : ℕ) (text : List ℕ) (ds : List Defect) (a : ℕ) → One (Lines N W text ds a)
 lines_one N W text ds a = listing_one (λ _. Unit {0}) (LineAt N W text) text (line_at_one N W text) ds a
@@ -61,8 +59,8 @@ rest_one N W text a =
 
 text_one : (text : List ℕ) → One (ArrayText text)
 text_one text =
-    then_one (FirstLine text) _ (first_line_one text)
-    (λ s. then_one (Rest s.words s.width text s.to) _ (rest_one s.words s.width text s.to) (λ ds. value_one _))
+    then_one (FirstLine text) _ (first_line_one text 0)
+    (λ s. then_one (Rest s.value.words s.value.width text s.to) _ (rest_one s.value.words s.value.width text s.to) (λ ds. value_one _))
 
 pub memory_one : (needed lent : ℕ) → One (Memory needed lent)
 memory_one needed lent _ _ (enough p) (enough q) = refl
@@ -85,29 +83,25 @@ within s z =
     and_from _ _ (and_from _ _ (le-leb 1 s.words z.some_words) (le-leb s.words 256 (omega (arith, z.few_words))))
     (and_from _ _ (le-leb 1 s.width z.some_bits) (le-leb s.width 64 (omega (arith, z.few_bits))))
 
-size_sized : (text : List ℕ) (a : ℕ) (r : Result Size Fault) → SizeNext text a r → IfOk r Sized
-size_sized text a r =
-    then_made Sized (λ n s x.
-    then_made Sized (λ w t y.
-    then_made Sized (λ e u z q.
-    value_made Sized _ u (record { some_words = within_least 1 257 SizeOutsideLimits text a (Ok n) x; few_words = within_below 1 257 SizeOutsideLimits text a (Ok n) x; some_bits = within_least 1 65 SizeOutsideLimits text n.to (Ok w) y; few_bits = within_below 1 65 SizeOutsideLimits text n.to (Ok w) y }) q)))
+abbrev SizeSized : Gathered Size → Type 0
+SizeSized s = Sized s.value
 
-pub first_line_sized : (text : List ℕ) (r : Result Size Fault) → FirstLine text r → IfOk r Sized
+size_sized : (text : List ℕ) (a : ℕ) (r : Result (Gathered Size) Fault) → SizeNext text a r → IfOk r SizeSized
+size_sized text a r =
+    then_made SizeSized (λ n s x.
+    then_made SizeSized (λ w t y.
+    then_made SizeSized (λ e u z q.
+    value_made SizeSized _ u (record { some_words = within_least 1 257 SizeOutsideLimits text a (Ok n) x; few_words = within_below 1 257 SizeOutsideLimits text a (Ok n) x; some_bits = within_least 1 65 SizeOutsideLimits text n.to (Ok w) y; few_bits = within_below 1 65 SizeOutsideLimits text n.to (Ok w) y }) q)))
+
+pub first_line_sized : (text : List ℕ) (r : Result (Gathered Size) Fault) → FirstLine text r → IfOk r (λ s. Sized s.value)
 first_line_sized text r =
-    then_made Sized (λ _ s x.
-    then_made Sized (λ a t y.
-    then_made Sized (λ b u z. size_sized text b u)))
+    then_made SizeSized (λ _ s x.
+    then_made SizeSized (λ a t y.
+    then_made SizeSized (λ b u z. size_sized text b u)))
 
 -- what a line adds, by its defect
 pub adds_none : (ds : List Defect) (p e : ℕ) (o : Option Defect) → o ≡ None → AddsLine ds p e o (Ok (gathered ds e))
 adds_none ds p e o i = subst (λ o. AddsLine ds p e o (Ok (gathered ds e))) (sym i) refl
-
-pub adds_new : (ds : List Defect) (p e : ℕ) (o : Option Defect) (d : Defect) → o ≡ Some d → some (repeats d) ds ≡ false → AddsLine ds p e o (Ok (gathered (d ∷ ds) e))
-adds_new ds p e o d i n = subst (λ o. AddsLine ds p e o (Ok (gathered (d ∷ ds) e))) (sym i) (new n)
-
-pub adds_repeated : (ds : List Defect) (p e : ℕ) (o : Option Defect) (d : Defect) (f : Fault) → o ≡ Some d → some (repeats d) ds ≡ true → f ≡ meaning_fault DefectRepeated p → AddsLine ds p e o (Err f)
-adds_repeated ds p e o d f i n q =
-    subst (λ o. AddsLine ds p e o (Err f)) (sym i) (subst (λ g. Adds ds p e d (Err g)) (sym q) (repeated n))
 
 layer_call : (l : Layer) → layer_number l ≡ 0 → l ≡ Call
 layer_call Call e = refl

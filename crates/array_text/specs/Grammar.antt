@@ -28,12 +28,16 @@ SizeNext text a =
     Then (Next LineFeed text w.to)
     (λ e r. r ≡ Ok (gathered (record { words = n.value; width = w.value }) e))))
 
--- the text is short enough, and begins with `(array`
-abbrev pub FirstLine : List ℕ → Result (Gathered Size) Fault → Type 0
-FirstLine text =
+-- the text is short enough, and from `a` on stands `(array` with its size
+abbrev pub FirstLineNext : List ℕ → ℕ → Result (Gathered Size) Fault → Type 0
+FirstLineNext text a =
     Then (Measured text) (λ _.
-    Then (Next Open text 0) (λ a.
-    Then (WordNext (codes "array") text a) (SizeNext text)))
+    Then (Next Open text a) (λ b.
+    Then (WordNext (codes "array") text b) (SizeNext text)))
+
+-- and that at its front
+abbrev pub FirstLine : List ℕ → Result (Gathered Size) Fault → Type 0
+FirstLine text = FirstLineNext text 0
 
 -- a defect after the defects ds; the bracket of its line stands at p, and the place after the line is e
 pub data Adds (ds : List Defect) (p e : ℕ) (d : Defect) : Result (Gathered (List Defect)) Fault → Type 0 where

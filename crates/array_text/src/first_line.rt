@@ -1,7 +1,7 @@
 // The first line of an array text, `(array N W`.
 ghost use Rattle.std.specs.Prelude.{◌≡◌, ◌≤◌};
 ghost use Rattle.words.specs.Readings.{Reading, come_to};
-ghost use Rattle.array_text.specs.Grammar.{SizeNext, FirstLine};
+ghost use Rattle.array_text.specs.Grammar.{SizeNext, FirstLineNext};
 
 use array_lines::number::number_within;
 use cam::fault::{Fault, Reason};
@@ -24,10 +24,9 @@ fn read_size(cursor: &mut Cursor) -> Result<Size, Fault>
     })
 }
 
-// Asks whether the text is short enough, and reads its first line from after its bracket.
+// Asks whether the text is short enough, and reads its first line.
 pub(crate) fn read_first_line(cursor: &mut Cursor) -> Result<Size, Fault>
-    requires at_the_front { cursor.old.at ≡ 0 }
-    ensures reading { Reading (FirstLine cursor.old.text.now) (come_to cursor.new.at result) }
+    ensures reading { Reading (FirstLineNext cursor.old.text.now cursor.old.at) (come_to cursor.new.at result) }
     ensures text_stays { cursor.new.text.now ≡ cursor.old.text.now }
 {
     check_length(cursor.text)?;

@@ -51,11 +51,7 @@ fn add_lines(cursor: &mut Cursor, size: Size, array: &mut PlaneArray) -> Result<
 }
 
 // Reads what follows the first line, to the end of the text, into an array that is new.
-pub(crate) fn add_rest(
-    cursor: &mut Cursor,
-    size: Size,
-    array: &mut PlaneArray,
-) -> Result<(), Fault>
+pub(crate) fn add_rest(cursor: &mut Cursor, size: Size, array: &mut PlaneArray) -> Result<(), Fault>
     ensures reading { Holds size.words size.width [] array.old → RestLeaves (Rest size.words size.width cursor.old.text.now cursor.old.at) size.words size.width array.new result }
     ensures later_records_stay { KeepsLater array.old array.new }
 {

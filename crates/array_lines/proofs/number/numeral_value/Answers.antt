@@ -28,11 +28,11 @@ digit_is b l h = grind (arith, nat_tests)
 bounds : (b : ℕ) → is_digit b ≡ true → (48 ≤ b) × (b ≤ 57)
 bounds b e = let p = and_parts (leb 48 b) (leb b 57) e in (leb-true 48 b p.0, leb-true b 57 p.1)
 
-pub returns-then-not-is_digit : goal.returns-then-not-is_digit
-returns-then-not-is_digit c =
+pub returns-then-not-is_ascii_digit : goal.returns-then-not-is_ascii_digit
+returns-then-not-is_ascii_digit c =
     let xs = c.args.word.now in
     let i = c.loop-byte.byte-index in
-    let off : is_digit (get_or xs i 0) ≡ false = sym c.if-not-is_digit.ensures.digit in
+    let off : is_digit (get_or xs i 0) ≡ false = sym c.if-not-is_ascii_digit.ensures.value in
     let bad : every is_digit xs ≡ false = sym c.loop-byte.invariant.0 ∙ at_drop_more (every is_digit) xs i 0 (omega arith) ∙ and_left _ _ off in
     record { value_of_digits = and_right (leb (length xs) 4) _ bad }
 
@@ -43,7 +43,7 @@ overflow_mul-value c =
 
 pub overflow_add-value : goal.overflow_add-value
 overflow_add-value c =
-    let digit = bounds (get_or c.args.word.now c.loop-byte.byte-index 0) (sym c.if-not-is_digit.ensures.digit) in
+    let digit = bounds (get_or c.args.word.now c.loop-byte.byte-index 0) (sym c.if-not-is_ascii_digit.ensures.value) in
     let small = so_far c.args.word.now c.loop-byte.byte-index c.loop-byte.value c.loop-byte.invariant.1 c.loop-byte.invariant.2 (omega arith) (omega arith) in
     omega arith
 
@@ -53,13 +53,13 @@ loop-byte-preserved c =
     let i = c.loop-byte.byte-index in
     let b = get_or xs i 0 in
     let at : i < length xs = omega arith in
-    let digit : is_digit b ≡ true = sym c.if-not-is_digit.ensures.digit in
+    let digit : is_digit b ≡ true = sym c.if-not-is_ascii_digit.ensures.value in
     let low : 48 ≤ b = (bounds b digit).0 in
     let high : b ≤ 57 = (bounds b digit).1 in
     let is = digit_is b low high in (
       sym (at_drop_more (every is_digit) xs i 0 at ∙ ap (λ t. t && every is_digit (drop (i + 1) xs)) digit) ∙ c.loop-byte.invariant.0,
       digits_more 10 xs i at c.loop-byte.invariant.1 (omega arith),
-      sym (digits_value_more 10 xs i at ∙ ap₂ (λ (v d : ℕ). v * 10 + d) (sym c.loop-byte.invariant.2) is),
+      sym (digits_value_more 10 xs i at ∙ ap₂ (λ (v d : ℕ). v * 10 + d) (sym c.loop-byte.invariant.2) (is ∙ sym c.from.ensures)),
     )
 
 pub returns : goal.returns

@@ -1,8 +1,7 @@
-use Rattle.std.proofs.Common.{◌-◌, List, length, Result}
+use Rattle.std.proofs.Common.{◌≡◌, ◌-◌, ◌≤◌, List, length, Result}
 use Rattle.cam.specs.declared.fault.Fault.{Fault}
 use Rattle.planes.specs.Planes.{KeepsLater}
-use Rattle.words.specs.Forms.{Ahead}
-use Rattle.words.specs.Listings.{Gathered}
+use Rattle.words.specs.Readings.{Gathered}
 use Rattle.array_lines.specs.declared.cell.Defect.{Defect}
 use Rattle.array_text.specs.Grammar.{Lines}
 use Rattle.array_text.specs.Left.{Holds}
@@ -10,12 +9,14 @@ use Rattle.array_text.proofs.lines.add_lines.Given as goal
 
 -- the array has the defects so far, and what the rest gives after them, the whole gives
 abbrev pub invariant-loop-token : goal.invariant-loop-token
-invariant-loop-token l =
-    Ahead l.text l.size.to l.place
-    × ((ds : List Defect) → Holds l.size.words l.size.width ds l.initial.array
-    → (es : List Defect) × (Holds l.size.words l.size.width es l.array
-    × ((r : Result (Gathered (List Defect)) Fault) → Lines l.size.words l.size.width l.text es l.place r → Lines l.size.words l.size.width l.text ds l.size.to r)))
-    × KeepsLater l.initial.array l.array
+invariant-loop-token l = record {
+  text_stays : l.cursor.text.now ≡ l.initial.cursor.text.now;
+  goes_on : l.initial.cursor.at ≤ l.cursor.at;
+  rest : (ds : List Defect) → Holds l.size.words l.size.width ds l.initial.array
+      → (es : List Defect) × (Holds l.size.words l.size.width es l.array
+      × ((r : Result (Gathered (List Defect)) Fault) → Lines l.size.words l.size.width l.initial.cursor.text.now es l.cursor.at r → Lines l.size.words l.size.width l.initial.cursor.text.now ds l.initial.cursor.at r));
+  later : KeepsLater l.initial.array l.array;
+}
 
 abbrev pub decreases-loop-token : goal.decreases-loop-token
-decreases-loop-token l = length l.text - l.place
+decreases-loop-token l = length l.cursor.text.now - l.cursor.at

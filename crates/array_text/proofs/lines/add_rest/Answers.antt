@@ -1,28 +1,25 @@
-use Rattle.std.proofs.Common.{[], refl}
+use Rattle.std.proofs.Common.{[]}
 use Rattle.std.proofs.lemmas.Result.{err_from_is_err_and}
 use Rattle.words.specs.Readings.{on, off}
+use Rattle.array_text.proofs.Leaving.{rest_leaves}
 use Rattle.array_text.proofs.lines.add_rest.Goals as goal
 
-pub returns-in_err-closed : goal.returns-in_err-closed
-returns-in_err-closed c =
+pub returns-in_err-add_lines-clause-reading : goal.returns-in_err-add_lines-clause-reading
+returns-in_err-add_lines-clause-reading c =
     let p = err_from_is_err_and c.from_residual.result c.from_residual.ensures.1 in
-    rw (p.1, p.2) record { reading = λ h. off (c.in_err-closed.ensures.reading [] h); later_records_stay = c.in_err-closed.ensures.later_records_stay }
+    rw (p.1, p.2) (λ h. off (c.in_err-add_lines.ensures.reading [] h))
 
-pub returns-in_err-ended : goal.returns-in_err-ended
-returns-in_err-ended c =
-    let p = err_from_is_err_and c.from_residual-in_err-ended.result c.from_residual-in_err-ended.ensures.1 in
-    rw (p.1, p.2) record { reading = λ h. on (c.in_ok-closed.ensures.reading [] h).1.0 (off c.in_err-ended.ensures.reading.reads); later_records_stay = c.in_ok-closed.ensures.later_records_stay }
-
-pub returns-in_err-want : goal.returns-in_err-want
-returns-in_err-want c =
+pub returns-in_err-want-clause-reading : goal.returns-in_err-want-clause-reading
+returns-in_err-want-clause-reading c =
     let p = err_from_is_err_and c.from_residual-in_err-want.result c.from_residual-in_err-want.ensures.1 in
-    rw (p.1, p.2) record { reading = λ h. on (c.in_ok-closed.ensures.reading [] h).1.0 (on c.in_ok-ended.ensures.reading.reads (off c.in_err-want.ensures.reading.reads)); later_records_stay = c.in_ok-closed.ensures.later_records_stay }
+    let l = c.in_ok-add_lines.ensures in
+    let e = rw l.text_stays at c.in_err-want.ensures.reading.reads in
+    rw (p.1, p.2) (λ h. on (l.reading [] h).1.0 (off e))
 
-pub returns : goal.returns
-returns c =
-    record {
-      reading = λ h.
-          let x = c.in_ok-closed.ensures.reading [] h in
-          (x.0, (on x.1.0 (on c.in_ok-ended.ensures.reading.reads (on c.in_ok-want.ensures.reading.reads refl)), x.1.1));
-      later_records_stay = c.in_ok-closed.ensures.later_records_stay;
-    }
+pub returns-clause-reading : goal.returns-clause-reading
+returns-clause-reading c = λ h.
+    let l = c.in_ok-add_lines.ensures in
+    let x = l.reading [] h in
+    let e = rw l.text_stays at c.in_ok-want.ensures.reading.reads in
+    let f = rw (c.in_ok-want.ensures.text_stays, l.text_stays) at c.want-2.ensures.reading.reads in
+    rest_leaves _ _ _ _ _ x.0 _ _ c.want-2.result _ x.1.0 e f x.1.1
