@@ -1,13 +1,9 @@
 // Cases of campaigns.
-use crate::output::{Output, put_refused};
-use crate::scanner::Scanner;
-use anyhow::anyhow;
+use crate::cases::Cases;
+use crate::output::put_refused;
 use campaigns::campaign::campaign;
 use campaigns::row::Row;
-use planes::array::NotMade;
 use planes::word::WordRecord;
-use sheets::sheet::read_sheet;
-use std::alloc::Global;
 use std::io::Write;
 
 const EMPTY: Row = Row {
@@ -16,32 +12,21 @@ const EMPTY: Row = Row {
     tenths: 0,
 };
 
-fn put_rows(out: &mut Output, rows: &[Row; 15]) -> anyhow::Result<()> {
+pub(crate) fn answer_campaign(cases: &mut Cases<'_>) -> anyhow::Result<()> {
+    let test = cases.test()?;
+    let size = cases.size()?;
+    let records = vec![in cases.heap; WordRecord::blank(); cases.header.number()?]?;
+    let mut rows = [EMPTY; 15];
+    if let Err(refused) = campaign(&test, size, records, &mut rows) {
+        return put_refused(&mut cases.out, refused.into());
+    }
     for row in rows {
-        let detected = row.detected;
-        let total = row.total;
-        let tenths = row.tenths;
-        writeln!(out, "{detected} {total} {tenths}")?;
+        let Row {
+            detected,
+            total,
+            tenths,
+        } = row;
+        writeln!(cases.out, "{detected} {total} {tenths}")?;
     }
     Ok(())
-}
-
-pub(crate) fn answer_campaign(
-    heap: Global,
-    header: &mut Scanner<'_>,
-    input: &mut Scanner<'_>,
-    out: &mut Output,
-) -> anyhow::Result<()> {
-    let test = match read_sheet(input.take(header.count()?)?) {
-        Ok(test) => test,
-        Err(_) => return Err(anyhow!("the sheet of a campaign is refused")),
-    };
-    let words = header.short()?;
-    let width = header.byte()?;
-    let records = vec![in heap; WordRecord::blank(); header.count()?]?;
-    let mut rows = [EMPTY; 15];
-    match campaign(&test, words, width, records, &mut rows) {
-        Ok(_) => put_rows(out, &rows),
-        Err(NotMade { records: _, fault }) => put_refused(out, fault),
-    }
 }

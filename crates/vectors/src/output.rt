@@ -1,8 +1,8 @@
 // Lines of answers.
-use anyhow::anyhow;
 use bench::books::Finding;
 use cam::fault::Fault;
-use report::lines::refused_line;
+use std::fmt;
+use std::fmt::Display;
 use std::io::{BufWriter, Stdout, Write};
 
 pub type Output = BufWriter<Stdout>;
@@ -14,66 +14,47 @@ pub(crate) fn put_refused(out: &mut Output, fault: Fault) -> anyhow::Result<()> 
     Ok(())
 }
 
-// `refused NUMBER LAYER PLACE`
-pub(crate) fn put_refusal(out: &mut Output, fault: Fault) -> anyhow::Result<()> {
-    let mut line = [0u8; 64];
-    let made = refused_line(&mut line, fault);
-    put_line(out, &line, made)
+// The line of an answer, or the refusal.
+pub(crate) fn put_answer<T: Display + Drop>(
+    out: &mut Output,
+    answer: Result<T, Fault>,
+) -> anyhow::Result<()> {
+    match answer {
+        Ok(answer) => {
+            writeln!(out, "{answer}")?;
+            Ok(())
+        }
+        Err(fault) => put_refused(out, fault),
+    }
 }
 
 // `done`, or the refusal.
 pub(crate) fn put_done(out: &mut Output, done: Result<(), Fault>) -> anyhow::Result<()> {
-    match done {
-        Ok(()) => {
-            out.write_all(b"done\n")?;
-            Ok(())
-        }
-        Err(fault) => put_refused(out, fault),
-    }
+    put_answer(out, done.map(|()| "done"))
 }
 
-// `finding NUMBER COUNT`, without a line feed.
-pub(crate) fn put_finding(out: &mut Output, finding: Finding) -> anyhow::Result<()> {
-    let number = finding.number();
-    let count = finding.count();
-    write!(out, "finding {number} {count}")?;
-    Ok(())
+// `finding NUMBER COUNT`
+#[derive(Clone, Copy)]
+pub struct Found(pub Finding);
+
+impl Display for Found {
+    fn fmt<W: fmt::Write>(&self, f: &mut fmt::Formatter<W>) -> fmt::Result {
+        let number = self.0.number();
+        let count = self.0.count();
+        write!(f, "finding {number} {count}")
+    }
 }
 
 // The line of a finding, or the refusal.
 pub(crate) fn put_found(out: &mut Output, found: Result<Finding, Fault>) -> anyhow::Result<()> {
-    match found {
-        Ok(finding) => {
-            put_finding(out, finding)?;
-            out.write_all(b"\n")?;
-            Ok(())
-        }
-        Err(fault) => put_refused(out, fault),
-    }
+    put_answer(out, found.map(Found))
 }
 
 // Each byte as a number after a space, and a line feed.
 pub(crate) fn put_numbers(out: &mut Output, bytes: &[u8]) -> anyhow::Result<()> {
-    for byte in bytes {
-        let number = *byte;
+    for number in bytes {
         write!(out, " {number}")?;
     }
     out.write_all(b"\n")?;
     Ok(())
-}
-
-// A line that was made in a buffer.
-pub(crate) fn put_line(
-    out: &mut Output,
-    buffer: &[u8; 64],
-    made: Result<usize, Fault>,
-) -> anyhow::Result<()> {
-    match made {
-        Ok(length) => {
-            let end = length.min(64);
-            out.write_all(&buffer[0..end])?;
-            Ok(())
-        }
-        Err(_) => Err(anyhow!("no room for a line")),
-    }
 }

@@ -1,24 +1,11 @@
 // Bytes that are read from front to back.
-ghost use Rattle.std.specs.Prelude.{◌≤◌, length};
-
-use anyhow::anyhow;
-use std::str::from_utf8;
+use anyhow::{Context, anyhow};
+use std::error::Error;
+use std::str::{FromStr, from_utf8};
 
 #[derive(Clone, Copy)]
 pub struct Scanner<'a> {
     rest: &'a [u8],
-}
-
-// How many bytes stand before the first that is `end`; all of them where none is.
-fn length_before(text: &[u8], end: u8) -> usize
-    ensures within { result ≤ length text.now }
-{
-    for place in 0..text.len() {
-        if text[place] == end {
-            return place;
-        }
-    }
-    text.len()
 }
 
 impl<'a> Scanner<'a> {
@@ -48,12 +35,9 @@ impl<'a> Scanner<'a> {
 
     // The bytes before the next that is `end`, which is passed too; all that is left where none is.
     pub(crate) fn before(&mut self, end: u8) -> &'a [u8] {
-        let rest = self.rest;
-        let (front, back) = rest.split_at(length_before(rest, end));
-        self.rest = match back {
-            [] => back,
-            [_, after @ ..] => after,
-        };
+        let mut parts = self.rest.splitn(2, |byte| *byte == end);
+        let front = parts.next().unwrap_or(&[]);
+        self.rest = parts.next().unwrap_or(&[]);
         front
     }
 
@@ -66,30 +50,21 @@ impl<'a> Scanner<'a> {
     }
 
     // The next word as a number.
-    pub(crate) fn number(&mut self) -> anyhow::Result<u64> {
-        let word = from_utf8(self.word())?;
-        Ok(word.parse::<u64>()?)
+    pub(crate) fn number<N: FromStr>(&mut self) -> anyhow::Result<N>
+    where
+        N::Err: Error,
+    {
+        Ok(from_utf8(self.word())?.parse::<N>()?)
     }
 
-    // The next word as a number of bytes or of things.
-    pub(crate) fn count(&mut self) -> anyhow::Result<usize> {
-        Ok(usize::try_from(self.number()?)?)
-    }
-
-    pub(crate) fn short(&mut self) -> anyhow::Result<u16> {
-        Ok(u16::try_from(self.number()?)?)
-    }
-
-    pub(crate) fn byte(&mut self) -> anyhow::Result<u8> {
-        Ok(u8::try_from(self.number()?)?)
+    // The value that the next word numbers, counted from 0.
+    pub(crate) fn choice<T: Copy>(&mut self, values: &[T]) -> anyhow::Result<T> {
+        let number = self.number::<usize>()?;
+        values.get(number).copied().context("a number of no choice")
     }
 
     // The next word as a bit.
     pub(crate) fn bit(&mut self) -> anyhow::Result<bool> {
-        match self.word() {
-            b"0" => Ok(false),
-            b"1" => Ok(true),
-            _ => Err(anyhow!("a bit is 0 or 1")),
-        }
+        self.choice(&[false, true])
     }
 }

@@ -1,10 +1,14 @@
 // Tickets of any number. A second bench gives them, and takes them back, since nobody can let a ticket go.
-use anyhow::anyhow;
+use anyhow::Context;
 use bench::bench::Bench;
 use bench::books::Ticket;
-use planes::array::{NotMade, PlaneArray};
+use cam::fault::Fault;
+use cam::size::Size;
+use planes::array::PlaneArray;
 use planes::word::WordRecord;
 use std::alloc::Global;
+
+const ONE_CELL: Size = Size { words: 1, width: 1 };
 
 #[derive(Drop)]
 pub struct TicketOffice {
@@ -14,17 +18,12 @@ pub struct TicketOffice {
 impl TicketOffice {
     pub(crate) fn open(heap: Global) -> anyhow::Result<TicketOffice> {
         let records = vec![in heap; WordRecord::blank(); 1]?;
-        match PlaneArray::new(records, 1, 1) {
-            Ok(array) => Ok(TicketOffice {
-                bench: Bench::new(array),
-            }),
-            Err(
-                NotMade {
-                    records: _,
-                    fault: _,
-                },
-            ) => Err(anyhow!("no bench for tickets")),
-        }
+        let array = PlaneArray::new(records, ONE_CELL)
+            .map_err(Fault::from)
+            .context("no bench for tickets")?;
+        Ok(TicketOffice {
+            bench: Bench::new(array),
+        })
     }
 
     // Starts a run, and quits it at once.
@@ -39,10 +38,7 @@ impl TicketOffice {
         for _ in 1..number {
             self.spend_number();
         }
-        match self.bench.start() {
-            Ok(ticket) => Ok(ticket),
-            Err(_) => Err(anyhow!("no ticket")),
-        }
+        self.bench.start().context("no ticket")
     }
 
     pub(crate) fn take_back(&mut self, ticket: Ticket) {
@@ -51,25 +47,18 @@ impl TicketOffice {
 
     // Whether the ticket fits the office's next run.
     fn fits_next(&mut self, ticket: &Ticket) -> bool {
-        match self.bench.start() {
-            Ok(own) => {
-                let fits = self.bench.step(ticket, 0).is_ok();
-                let _ = self.bench.quit(own);
-                fits
-            }
-            Err(_) => false,
-        }
+        let Ok(own) = self.bench.start() else {
+            return false;
+        };
+        let fits = self.bench.step(ticket, 0).is_ok();
+        let _ = self.bench.quit(own);
+        fits
     }
 
     // The number of a ticket, up to `most`, which an office that has given none yet finds by trying; else 0.
     pub(crate) fn number_of(&mut self, ticket: Ticket, most: u64) -> u64 {
-        let mut found = 0;
-        for number in 0..most {
-            if self.fits_next(&ticket) {
-                found = number + 1;
-            }
-        }
+        let found = (1..=most).find(|_| self.fits_next(&ticket));
         self.take_back(ticket);
-        found
+        found.unwrap_or(0)
     }
 }

@@ -1,12 +1,11 @@
 // Cases of the sheet writer: a sheet is written piece by piece.
+use crate::cases::Cases;
 use crate::output::{Output, put_refused};
 use crate::scanner::Scanner;
 use anyhow::anyhow;
-use cam::fault::Fault;
 use march::element::{Comparison, TestOperation};
 use march::operations::Order;
 use sheet_writer::states::{BetweenElements, InsideElement, NotWritten};
-use std::alloc::Global;
 use std::io::Write;
 use std::str::from_utf8;
 
@@ -34,46 +33,35 @@ enum Sheet {
 impl Drop for Sheet {
     fn drop(self) {
         match self {
-            Sheet::New => {}
             Sheet::Between(state) => state.abandon(),
             Sheet::Inside(state) => state.abandon(),
-            Sheet::Ended => {}
+            Sheet::New | Sheet::Ended => {}
         }
     }
 }
 
-// A sheet after a call, and how the call went.
-#[derive(Drop)]
-struct Called {
-    sheet: Sheet,
-    done: Result<(), Fault>,
-}
-
-fn granted(sheet: Sheet) -> Called {
-    Called {
-        sheet,
-        done: Ok(()),
+impl From<BetweenElements> for Sheet {
+    fn from(state: BetweenElements) -> Sheet {
+        Sheet::Between(state)
     }
 }
 
-fn refused(sheet: Sheet, fault: Fault) -> Called {
-    Called {
-        sheet,
-        done: Err(fault),
+impl From<InsideElement> for Sheet {
+    fn from(state: InsideElement) -> Sheet {
+        Sheet::Inside(state)
     }
 }
 
-fn misplaced() -> anyhow::Error {
-    anyhow!("a call that does not fit where the sheet stands")
-}
-
-fn call_new(piece: Piece<'_>, buffer: &mut [u8]) -> anyhow::Result<Called> {
-    match piece {
-        Piece::Begin(name) => match BetweenElements::begin(name, buffer) {
-            Ok(state) => Ok(granted(Sheet::Between(state))),
-            Err(fault) => Ok(refused(Sheet::New, fault)),
-        },
-        _ => Err(misplaced()),
+// A call with a state, refused with it or granted with the next one, as a call with a sheet.
+fn with_sheets<S: Into<Sheet>, T: Into<Sheet>>(
+    called: Result<T, NotWritten<S>>,
+) -> Result<Sheet, NotWritten<Sheet>> {
+    match called {
+        Ok(next) => Ok(next.into()),
+        Err(NotWritten { state, fault }) => Err(NotWritten {
+            state: state.into(),
+            fault,
+        }),
     }
 }
 
@@ -81,19 +69,13 @@ fn call_between(
     state: BetweenElements,
     piece: Piece<'_>,
     buffer: &mut [u8],
-) -> anyhow::Result<Called> {
+) -> Option<Result<Sheet, NotWritten<Sheet>>> {
     match piece {
-        Piece::Open(order) => match state.open(order, buffer) {
-            Ok(inside) => Ok(granted(Sheet::Inside(inside))),
-            Err(NotWritten { state, fault }) => Ok(refused(Sheet::Between(state), fault)),
-        },
-        Piece::End => match state.end(buffer) {
-            Ok(_) => Ok(granted(Sheet::Ended)),
-            Err(NotWritten { state, fault }) => Ok(refused(Sheet::Between(state), fault)),
-        },
+        Piece::Open(order) => Some(with_sheets(state.open(order, buffer))),
+        Piece::End => Some(with_sheets(state.end(buffer).map(|_| Sheet::Ended))),
         _ => {
             state.abandon();
-            Err(misplaced())
+            None
         }
     }
 }
@@ -102,95 +84,102 @@ fn call_inside(
     state: InsideElement,
     piece: Piece<'_>,
     buffer: &mut [u8],
-) -> anyhow::Result<Called> {
+) -> Option<Result<Sheet, NotWritten<Sheet>>> {
     match piece {
-        Piece::Write(operation) => match state.write(operation, buffer) {
-            Ok(inside) => Ok(granted(Sheet::Inside(inside))),
-            Err(NotWritten { state, fault }) => Ok(refused(Sheet::Inside(state), fault)),
-        },
-        Piece::Close => match state.close(buffer) {
-            Ok(between) => Ok(granted(Sheet::Between(between))),
-            Err(NotWritten { state, fault }) => Ok(refused(Sheet::Inside(state), fault)),
-        },
+        Piece::Write(operation) => Some(with_sheets(state.write(operation, buffer))),
+        Piece::Close => Some(with_sheets(state.close(buffer))),
         _ => {
             state.abandon();
-            Err(misplaced())
+            None
         }
     }
 }
 
 impl Sheet {
-    // Makes a call. The cases have none that the types of the writer would not allow.
-    fn call(self, piece: Piece<'_>, buffer: &mut [u8]) -> anyhow::Result<Called> {
+    // Makes a call, if it is one that the types of the writer allow. The cases have no other.
+    fn call(self, piece: Piece<'_>, buffer: &mut [u8]) -> Option<Result<Sheet, NotWritten<Sheet>>> {
         match self {
-            Sheet::New => call_new(piece, buffer),
+            Sheet::New => {
+                let Piece::Begin(name) = piece else {
+                    return None;
+                };
+                let state = Sheet::New;
+                let begun = BetweenElements::begin(name, buffer).map(Sheet::Between);
+                Some(begun.map_err(|fault| NotWritten { state, fault }))
+            }
             Sheet::Between(state) => call_between(state, piece, buffer),
             Sheet::Inside(state) => call_inside(state, piece, buffer),
-            Sheet::Ended => Err(misplaced()),
+            Sheet::Ended => None,
         }
     }
 }
 
 fn order_of(word: &[u8]) -> anyhow::Result<Order> {
-    match word {
-        b"up" => Ok(Order::Up),
-        b"down" => Ok(Order::Down),
-        b"columns" => Ok(Order::Columns),
-        _ => Err(anyhow!("no such order")),
-    }
+    Ok(match word {
+        b"up" => Order::Up,
+        b"down" => Order::Down,
+        b"columns" => Order::Columns,
+        _ => return Err(anyhow!("no such order")),
+    })
 }
 
 fn comparison_of(words: &mut Scanner<'_>) -> anyhow::Result<Comparison> {
-    let bit = words.bit()?;
-    match words.word() {
-        b"hit" => Ok(Comparison { bit, hit: true }),
-        b"none" => Ok(Comparison { bit, hit: false }),
-        _ => Err(anyhow!("a compare expects hit or none")),
-    }
+    Ok(Comparison {
+        bit: words.bit()?,
+        hit: match words.word() {
+            b"hit" => true,
+            b"none" => false,
+            _ => return Err(anyhow!("a compare expects hit or none")),
+        },
+    })
 }
 
 fn piece_of(line: &[u8]) -> anyhow::Result<Piece<'_>> {
     let mut words = Scanner::new(line);
-    match words.word() {
-        b"begin" => Ok(Piece::Begin(words.rest())),
-        b"open" => Ok(Piece::Open(order_of(words.word())?)),
-        b"close" => Ok(Piece::Close),
-        b"end" => Ok(Piece::End),
-        b"w" => Ok(Piece::Write(TestOperation::Write(words.bit()?))),
-        b"r" => Ok(Piece::Write(TestOperation::Read(words.bit()?))),
-        b"c" => Ok(Piece::Write(TestOperation::Compare(comparison_of(&mut words)?))),
-        b"e" => Ok(Piece::Write(TestOperation::Erase)),
-        _ => Err(anyhow!("no such piece")),
-    }
+    Ok(match words.word() {
+        b"begin" => Piece::Begin(words.rest()),
+        b"open" => Piece::Open(order_of(words.word())?),
+        b"close" => Piece::Close,
+        b"end" => Piece::End,
+        b"w" => Piece::Write(TestOperation::Write(words.bit()?)),
+        b"r" => Piece::Write(TestOperation::Read(words.bit()?)),
+        b"c" => Piece::Write(TestOperation::Compare(comparison_of(&mut words)?)),
+        b"e" => Piece::Write(TestOperation::Erase),
+        _ => return Err(anyhow!("no such piece")),
+    })
 }
 
-// The answer of a call: how many bytes are written so far, or the refusal.
-fn put_answer(out: &mut Output, done: Result<(), Fault>, buffer: &[u8]) -> anyhow::Result<()> {
-    match done {
-        Ok(()) => {
+// Prints the answer of a call, how many bytes are written so far or the refusal, and gives where the sheet stands.
+fn put_written(
+    out: &mut Output,
+    called: Result<Sheet, NotWritten<Sheet>>,
+    buffer: &[u8],
+) -> anyhow::Result<Sheet> {
+    match called {
+        Ok(sheet) => {
             let length = Scanner::new(buffer).before(FILL).len();
             writeln!(out, "done {length}")?;
-            Ok(())
+            Ok(sheet)
         }
-        Err(fault) => put_refused(out, fault),
+        Err(NotWritten { state, fault }) => {
+            put_refused(out, fault)?;
+            Ok(state)
+        }
     }
 }
 
-pub(crate) fn answer_writer(
-    heap: Global,
-    header: &mut Scanner<'_>,
-    input: &mut Scanner<'_>,
-    out: &mut Output,
-) -> anyhow::Result<()> {
-    let calls = input.take(header.count()?)?;
-    let mut buffer = vec![in heap; FILL; header.count()?]?;
+pub(crate) fn answer_writer(cases: &mut Cases<'_>) -> anyhow::Result<()> {
+    let calls = cases.payload()?;
+    let mut buffer = cases.buffer(FILL)?;
     let mut sheet = Sheet::New;
     for line in from_utf8(calls)?.split_terminator('\n') {
-        let called = sheet.call(piece_of(line.as_bytes())?, buffer.as_mut_slice())?;
-        put_answer(out, called.done, buffer.as_slice())?;
-        sheet = called.sheet;
+        let piece = piece_of(line.as_bytes())?;
+        let Some(called) = sheet.call(piece, buffer.as_mut_slice()) else {
+            return Err(anyhow!("a call that does not fit where the sheet stands"));
+        };
+        sheet = put_written(&mut cases.out, called, buffer.as_slice())?;
     }
-    out.write_all(buffer.as_slice())?;
-    out.write_all(b"\n")?;
+    cases.out.write_all(buffer.as_slice())?;
+    cases.out.write_all(b"\n")?;
     Ok(())
 }
