@@ -10,35 +10,36 @@ pub(crate) fn fold(sum: u64, value: u64) -> u64 {
     (sum ^ value).wrapping_mul(FACTOR)
 }
 
+// Takes values into a checksum.
+pub(crate) fn fold_all(sum: u64, values: &[u64]) -> u64 {
+    values.iter().fold(sum, |sum, value| fold(sum, *value))
+}
+
 // Takes bytes into a checksum.
 pub(crate) fn fold_bytes(sum: u64, bytes: &[u8]) -> u64 {
-    let mut sum = sum;
-    for byte in bytes {
-        sum = fold(sum, *byte as u64);
-    }
-    sum
+    bytes
+        .iter()
+        .fold(sum, |sum, byte| fold(sum, u64::from(*byte)))
 }
 
 // Takes a record, but for its mark, into a checksum.
 pub(crate) fn fold_record(sum: u64, record: &WordRecord) -> u64 {
-    let mut sum = sum;
-    sum = fold(sum, record.held);
-    sum = fold(sum, record.stuck as u64);
-    sum = fold(sum, record.sa0);
-    sum = fold(sum, record.sa1);
-    sum = fold(sum, record.norise);
-    sum = fold(sum, record.nofall);
-    sum = fold(sum, record.wrong00);
-    sum = fold(sum, record.wrong01);
-    sum = fold(sum, record.wrong11);
-    fold(sum, record.wrong10)
+    let values = [
+        record.held,
+        u64::from(record.stuck),
+        record.sa0,
+        record.sa1,
+        record.norise,
+        record.nofall,
+        record.wrong00,
+        record.wrong01,
+        record.wrong11,
+        record.wrong10,
+    ];
+    fold_all(sum, &values)
 }
 
 // Takes records into a checksum.
 pub(crate) fn fold_records(sum: u64, records: &[WordRecord]) -> u64 {
-    let mut sum = sum;
-    for record in records {
-        sum = fold_record(sum, record);
-    }
-    sum
+    records.iter().fold(sum, fold_record)
 }

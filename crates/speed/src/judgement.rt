@@ -1,86 +1,80 @@
 // Work: a whole judgement of an array of 256 words of 64 bits with a handful of defects.
-use crate::checksum::{START, fold, fold_bytes};
-use crate::refusal::refused;
-use bench::judging::{Judged, Judgement, NotJudged, judge_array};
+use crate::checksum::{START, fold_all, fold_bytes};
+use bench::judging::{Judged, Judgement, judge_array};
 use cam::defect::{Pair, StorageDefect};
 use cam::fault::Fault;
-use cam::index::{ColumnIndex, WordIndex};
-use planes::array::{NotMade, PlaneArray};
+use cam::index::{CellIndex, ColumnIndex, WordIndex};
+use cam::size::Size;
+use planes::array::PlaneArray;
 use planes::word::WordRecord;
 
-const WORDS: u16 = 256;
-
-const WIDTH: u8 = 64;
+const SIZE: Size = Size {
+    words: 256,
+    width: 64,
+};
 
 const CELLS: usize = 16384;
 
-const PAIR01: Pair = Pair {
-    held: false,
-    comparand: true,
-};
+// The storage defects and the wrong pairs of the array, by word and column.
+const STORAGE: [(u16, u8, StorageDefect); 4] = [
+    (17, 5, StorageDefect::Sa0),
+    (100, 63, StorageDefect::Sa1),
+    (128, 31, StorageDefect::NoRise),
+    (200, 10, StorageDefect::NoFall),
+];
 
-const PAIR10: Pair = Pair {
-    held: true,
-    comparand: false,
-};
+const PAIRS: [(u16, u8, Pair); 2] = [
+    (
+        0,
+        0,
+        Pair {
+            held: false,
+            comparand: true,
+        },
+    ),
+    (
+        255,
+        63,
+        Pair {
+            held: true,
+            comparand: false,
+        },
+    ),
+];
+
+fn cell(word: u16, column: u8) -> CellIndex {
+    CellIndex {
+        word: WordIndex { number: word },
+        column: ColumnIndex { number: column },
+    }
+}
 
 // A handful of defects, one of each sort.
 fn plant_some(array: &mut PlaneArray) -> Result<(), Fault> {
-    array.plant_pair(WordIndex { number: 0 }, ColumnIndex { number: 0 }, PAIR01)?;
-    array.plant_storage(
-        WordIndex { number: 17 },
-        ColumnIndex { number: 5 },
-        StorageDefect::Sa0,
-    )?;
-    array.plant_storage(
-        WordIndex { number: 100 },
-        ColumnIndex { number: 63 },
-        StorageDefect::Sa1,
-    )?;
-    array.plant_storage(
-        WordIndex { number: 128 },
-        ColumnIndex { number: 31 },
-        StorageDefect::NoRise,
-    )?;
-    array.plant_storage(
-        WordIndex { number: 200 },
-        ColumnIndex { number: 10 },
-        StorageDefect::NoFall,
-    )?;
-    array.plant_pair(
-        WordIndex { number: 255 },
-        ColumnIndex { number: 63 },
-        PAIR10,
-    )?;
+    for (word, column, defect) in STORAGE {
+        array.plant_storage(cell(word, column), defect)?;
+    }
+    for (word, column, pair) in PAIRS {
+        array.plant_pair(cell(word, column), pair)?;
+    }
     array.plant_stuck_mark(WordIndex { number: 77 })
 }
 
 // The array under test, new.
-fn made(records: Vec<WordRecord>) -> anyhow::Result<PlaneArray> {
-    let mut array = match PlaneArray::new(records, WORDS, WIDTH) {
-        Ok(array) => array,
-        Err(NotMade { records: _, fault }) => return Err(refused(fault)),
-    };
-    match plant_some(&mut array) {
-        Ok(()) => Ok(array),
-        Err(fault) => Err(refused(fault)),
-    }
-}
-
-fn judged(array: PlaneArray, chart: &mut [u8]) -> anyhow::Result<Judged<PlaneArray>> {
-    match judge_array(array, chart) {
-        Ok(judged) => Ok(judged),
-        Err(NotJudged { array: _, fault }) => Err(refused(fault)),
-    }
+fn made(records: Vec<WordRecord>) -> Result<PlaneArray, Fault> {
+    let mut array = PlaneArray::new(records, SIZE)?;
+    plant_some(&mut array)?;
+    Ok(array)
 }
 
 fn fold_judgement(sum: u64, judgement: Judgement, chart: &[u8]) -> u64 {
-    let mut sum = sum;
-    sum = fold(sum, judgement.operations as u64);
-    sum = fold(sum, judgement.finding.count() as u64);
-    sum = fold(sum, judgement.charting as u64);
-    sum = fold(sum, judgement.blemished as u64);
-    fold_bytes(sum, chart)
+    let values = [
+        u64::from(judgement.operations),
+        u64::from(judgement.finding.count()),
+        u64::from(judgement.charting),
+        u64::from(judgement.blemished),
+    ];
+    fold_bytes(fold_all(sum, &values), chart)
 }
 
 pub(crate) fn judgements(rt: &HostRuntime, repeats: u32) -> anyhow::Result<u64> {
@@ -88,7 +82,10 @@ pub(crate) fn judgements(rt: &HostRuntime, repeats: u32) -> anyhow::Result<u64> 
     let mut chart = vec![in rt.alloc(); 0u8; CELLS]?;
     let mut sum = START;
     for _ in 0..repeats {
-        let Judged { array, judgement } = judged(made(records)?, chart.as_mut_slice())?;
+        let array = made(records)?;
+        let Judged { array, judgement } = judge_array(array, chart.as_mut_slice()).map_err(
+            Fault::from,
+        )?;
         records = array.into_records();
         sum = fold_judgement(sum, judgement, chart.as_slice());
     }

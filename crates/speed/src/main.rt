@@ -6,46 +6,55 @@ mod checksum;
 mod coverage;
 mod judgement;
 mod reading;
-mod refusal;
 
-use anyhow::anyhow;
+use anyhow::{Context, anyhow};
 use coverage::campaign_rows;
 use judgement::judgements;
 use reading::readings;
 use std::env;
 
-fn tell_judgements(rt: &HostRuntime, repeats: u32) -> anyhow::Result<()> {
-    let sum = judgements(rt, repeats)?;
-    println!(rt; "judgement {sum}")?;
-    Ok(())
+#[derive(Clone, Copy)]
+enum Work {
+    Judgement,
+    Campaign,
+    Reading,
 }
 
-fn tell_campaigns(rt: &HostRuntime, repeats: u32) -> anyhow::Result<()> {
-    let sum = campaign_rows(rt, repeats)?;
-    println!(rt; "campaign {sum}")?;
-    Ok(())
-}
+const WORKS: [Work; 3] = [Work::Judgement, Work::Campaign, Work::Reading];
 
-fn tell_readings(rt: &HostRuntime, repeats: u32) -> anyhow::Result<()> {
-    let sum = readings(rt, repeats)?;
-    println!(rt; "reading {sum}")?;
-    Ok(())
-}
+impl Work {
+    fn name(self) -> &'static str {
+        match self {
+            Work::Judgement => "judgement",
+            Work::Campaign => "campaign",
+            Work::Reading => "reading",
+        }
+    }
 
-fn tell_one(rt: &HostRuntime, work: &str, repeats: &str) -> anyhow::Result<()> {
-    let repeats = repeats.parse::<u32>()?;
-    match work {
-        "judgement" => tell_judgements(rt, repeats),
-        "campaign" => tell_campaigns(rt, repeats),
-        "reading" => tell_readings(rt, repeats),
-        _ => Err(anyhow!("no such work")),
+    // Does the work that often, and tells the checksum of its results.
+    fn tell(self, rt: &HostRuntime, repeats: u32) -> anyhow::Result<()> {
+        let sum = match self {
+            Work::Judgement => judgements(rt, repeats)?,
+            Work::Campaign => campaign_rows(rt, repeats)?,
+            Work::Reading => readings(rt, repeats)?,
+        };
+        let name = self.name();
+        println!(rt; "{name} {sum}")?;
+        Ok(())
     }
 }
 
+fn tell_one(rt: &HostRuntime, name: &str, repeats: &str) -> anyhow::Result<()> {
+    let repeats = repeats.parse::<u32>()?;
+    let work = WORKS.iter().find(|work| work.name() == name);
+    work.context("no such work")?.tell(rt, repeats)
+}
+
 fn tell_all(rt: &HostRuntime) -> anyhow::Result<()> {
-    tell_judgements(rt, 1)?;
-    tell_campaigns(rt, 1)?;
-    tell_readings(rt, 1)
+    for work in WORKS {
+        work.tell(rt, 1)?;
+    }
+    Ok(())
 }
 
 fn run(rt: &HostRuntime) -> anyhow::Result<()> {

@@ -1,7 +1,7 @@
 // Work: reading the largest array text.
 use crate::checksum::{START, fold_record, fold_records};
-use crate::refusal::refused;
-use array_text::array::{NotRead, read_array};
+use array_text::array::read_array;
+use cam::fault::Fault;
 use planes::word::WordRecord;
 use std::alloc::{AllocError, Global};
 
@@ -47,10 +47,8 @@ pub(crate) fn readings(rt: &HostRuntime, repeats: u32) -> anyhow::Result<u64> {
     let mut records = vec![in rt.alloc(); WordRecord::blank(); 256]?;
     let mut sum = START;
     for number in 0..repeats {
-        match read_array(text.as_slice(), records) {
-            Ok(array) => records = array.into_records(),
-            Err(NotRead { records: _, fault }) => return Err(refused(fault)),
-        }
+        let array = read_array(text.as_slice(), records).map_err(Fault::from)?;
+        records = array.into_records();
         if let Some(record) = records.get((number % 256) as usize) {
             sum = fold_record(sum, record);
         }

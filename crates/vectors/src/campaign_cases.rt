@@ -6,17 +6,11 @@ use campaigns::row::Row;
 use planes::word::WordRecord;
 use std::io::Write;
 
-const EMPTY: Row = Row {
-    detected: 0,
-    total: 0,
-    tenths: 0,
-};
-
 pub(crate) fn answer_campaign(cases: &mut Cases<'_>) -> anyhow::Result<()> {
     let test = cases.test()?;
     let size = cases.size()?;
     let records = vec![in cases.heap; WordRecord::blank(); cases.header.number()?]?;
-    let mut rows = [EMPTY; 15];
+    let mut rows = [Row::EMPTY; 15];
     if let Err(refused) = campaign(&test, size, records, &mut rows) {
         return put_refused(&mut cases.out, refused.into());
     }
