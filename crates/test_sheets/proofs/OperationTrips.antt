@@ -10,12 +10,11 @@ use Rattle.march.specs.declared.operations.Order.TheVariants.{Columns}
 use Rattle.march.specs.Building.{is_compare}
 use Rattle.words.specs.declared.token.Kind.TheVariants.{Open}
 use Rattle.words.specs.Lexing.{Lexed, token}
-use Rattle.words.specs.Readings.{on}
+use Rattle.words.specs.Readings.{Gathered, gathered, on}
 use Rattle.words.specs.Forms.{BitNext, EitherNext}
 use Rattle.words.proofs.Places.{Stands, next, past, lex_space, lex_open, then_space, lex_word, spelt_there, close_there, first_there, second_there, zero_there, one_there}
 use Rattle.sheet_operations.specs.declared.letter.Letter.{Letter}
 use Rattle.sheet_operations.specs.declared.letter.Letter.TheVariants as letter
-use Rattle.sheet_operations.specs.declared.operation.Parsed.{Parsed}
 use Rattle.sheet_operations.specs.Letters.{spelling, LetterNext, known}
 use Rattle.sheet_operations.specs.Questions.{room, allowed}
 use Rattle.sheet_operations.specs.Operations.{Closing, OperationAt}
@@ -34,25 +33,25 @@ letter_there : (l : Letter) (b c : ℕ) → spelling l ≡ b ∷ [] → is_lette
 letter_there l b c is yes-b no-c {text} {rest} {a} x =
     on (lex_word (b ∷ []) c rest x (rw yes-b) no-c (omega arith) (omega arith)) (known l (rw is (spelt_there (b ∷ []) c rest x)))
 
-bit_0 : (c : ℕ) → is_letter_or_digit c ≡ false → {text rest : List ℕ} {a : ℕ} → Stands text a (32 ∷ 48 ∷ c ∷ rest) → BitNext text a (Ok (record { value = false; to = a + 1 + 1 }))
+bit_0 : (c : ℕ) → is_letter_or_digit c ≡ false → {text rest : List ℕ} {a : ℕ} → Stands text a (32 ∷ 48 ∷ c ∷ rest) → BitNext text a (Ok (gathered false (a + 1 + 1)))
 bit_0 c no-c {rest} x = then_space x (zero_there c rest no-c (next x))
 
-bit_1 : (c : ℕ) → is_letter_or_digit c ≡ false → {text rest : List ℕ} {a : ℕ} → Stands text a (32 ∷ 49 ∷ c ∷ rest) → BitNext text a (Ok (record { value = true; to = a + 1 + 1 }))
+bit_1 : (c : ℕ) → is_letter_or_digit c ≡ false → {text rest : List ℕ} {a : ℕ} → Stands text a (32 ∷ 49 ∷ c ∷ rest) → BitNext text a (Ok (gathered true (a + 1 + 1)))
 bit_1 c no-c {rest} x = then_space x (one_there c rest no-c (next x))
 
-none_there : {text rest : List ℕ} {a : ℕ} → Stands text a (32 ∷ (codes "none" ++ (41 ∷ rest))) → EitherNext (codes "none") (codes "hit") text a (Ok (record { value = false; to = a + 1 + 4 }))
+none_there : {text rest : List ℕ} {a : ℕ} → Stands text a (32 ∷ (codes "none" ++ (41 ∷ rest))) → EitherNext (codes "none") (codes "hit") text a (Ok (gathered false (a + 1 + 4)))
 none_there {rest} x = then_space x (first_there (codes "none") 41 rest (next x) (codes "hit") refl refl (omega arith) (omega arith))
 
 words_differ : codes "none" ≡ codes "hit" → ⊥
 words_differ e = let h : ◌≡◌ {A = ℕ} 110 104 = ap (λ w. get_or w 0 0) e in omega arith
 
-hit_there : {text rest : List ℕ} {a : ℕ} → Stands text a (32 ∷ (codes "hit" ++ (41 ∷ rest))) → EitherNext (codes "none") (codes "hit") text a (Ok (record { value = true; to = a + 1 + 3 }))
+hit_there : {text rest : List ℕ} {a : ℕ} → Stands text a (32 ∷ (codes "hit" ++ (41 ∷ rest))) → EitherNext (codes "none") (codes "hit") text a (Ok (gathered true (a + 1 + 3)))
 hit_there {rest} x = then_space x (second_there (codes "hit") 41 rest (next x) (codes "none") words_differ refl refl (omega arith) (omega arith))
 
-place : (o : TestOperation) (p q : ℕ) → p ≡ q → ◌≡◌ {A = Result Parsed Fault} (Ok (record { operation = o; to = p })) (Ok (record { operation = o; to = q }))
-place o p q e = ap (λ (i : ℕ). Ok (record { operation = o; to = i })) e
+place : (o : TestOperation) (p q : ℕ) → p ≡ q → ◌≡◌ {A = Result (Gathered TestOperation) Fault} (Ok (gathered o p)) (Ok (gathered o q))
+place o p q e = ap (λ (i : ℕ). Ok (gathered o i)) e
 
-closing_there : (o : TestOperation) (p : ℕ) {text rest : List ℕ} {a : ℕ} → Stands text a (41 ∷ rest) → p ≡ a + 1 → Closing o text a (Ok (record { operation = o; to = p }))
+closing_there : (o : TestOperation) (p : ℕ) {text rest : List ℕ} {a : ℕ} → Stands text a (41 ∷ rest) → p ≡ a + 1 → Closing o text a (Ok (gathered o p))
 closing_there o p x e = on (close_there x) (place o p _ e)
 
 -- the bracket of an operation, after its space
@@ -76,7 +75,7 @@ never e = absurd (let z : ◌≡◌ {A = ℕ} 0 1 = cc in omega arith)
 -- the operation that it opens
 pub operation_trip : (o : TestOperation) (order : Order) (count : ℕ) (rest : List ℕ) {text : List ℕ} {a : ℕ}
     → Stands text a (operation_piece o ++ rest) → count < 8 → (order ≡ Columns → is_compare o ≡ true)
-    → OperationAt order count text (token Open (a + 1) (a + 1 + 1)) (Ok (record { operation = o; to = a + length (operation_piece o) }))
+    → OperationAt order count text (a + 1) (a + 1 + 1) (Ok (gathered o (a + length (operation_piece o))))
 operation_trip (Write false) order count rest x few may =
     let h = next (next x) in
     on (room few) (on (letter_there letter.Write 119 32 refl refl refl h) (on (allowed (λ e. never (may e)))
@@ -96,7 +95,7 @@ operation_trip (Read true) order count rest x few may =
 operation_trip (Compare c) order count rest x few may = go c.bit c.hit x
   where
     go : (b h : Bool) {text : List ℕ} {a : ℕ} → Stands text a (compare_piece b h ++ rest)
-        → OperationAt order count text (token Open (a + 1) (a + 1 + 1)) (Ok (record { operation = Compare (record { bit = b; hit = h }); to = a + length (compare_piece b h) }))
+        → OperationAt order count text (a + 1) (a + 1 + 1) (Ok (gathered (Compare (record { bit = b; hit = h })) (a + length (compare_piece b h))))
     go false false x =
         let h = next (next x) in
         let o = next (next (next h)) in

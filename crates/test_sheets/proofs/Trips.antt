@@ -21,7 +21,8 @@ use Rattle.words.proofs.Places.{Stands, next, past, lex_open, lex_close, then_sp
 use Rattle.sheet_operations.specs.Questions.{room}
 use Rattle.sheets.specs.declared.line.LineWord.TheVariants.{Element as AnElement}
 use Rattle.sheets.specs.Elements.{Inside}
-use Rattle.sheets.specs.Lines.{LineWordNext, known, LineAt, Lines}
+use Rattle.words.specs.Choosing.{known}
+use Rattle.sheets.specs.Lines.{LineWordNext, LineAt, Lines}
 use Rattle.sheets.specs.Sheets.{TitleLine}
 use Rattle.sheets.proofs.Ones.{sheet_one}
 use Rattle.sheet_writer.specs.Sheets.{heading, compare_piece, operation_piece, ending, element_line, sheet}
@@ -54,23 +55,23 @@ inside_trip (o ∷ os) e rest text a s all few some =
 -- the word of a line, after its bracket
 word_trip : (o : Order) (c : ℕ) (rest : List ℕ) (text : List ℕ) (a : ℕ) → is_letter_or_digit c ≡ false
     → Stands text a (heading o ++ (c ∷ rest))
-    → Lexed text a (Ok (token Open a (a + 1))) × LineWordNext text (a + 1) (Ok (record { word = AnElement o; to = a + length (heading o) }))
+    → Lexed text a (Ok (token Open a (a + 1))) × LineWordNext text (a + 1) (Ok (gathered (AnElement o) (a + length (heading o))))
 word_trip Up c rest text a off s =
     let p : a + 1 + 2 ≡ a + 3 = omega arith in (
       lex_open s,
-      subst (λ (k : ℕ). LineWordNext text (a + 1) (Ok (record { word = AnElement Up; to = k }))) p
+      subst (λ (k : ℕ). LineWordNext text (a + 1) (Ok (gathered (AnElement Up) k))) p
           (on (lex_word (codes "up") c rest (next s) refl off (omega arith) (omega arith)) (known (AnElement Up) (spelt_there (codes "up") c rest (next s)))),
     )
 word_trip Down c rest text a off s =
     let p : a + 1 + 4 ≡ a + 5 = omega arith in (
       lex_open s,
-      subst (λ (k : ℕ). LineWordNext text (a + 1) (Ok (record { word = AnElement Down; to = k }))) p
+      subst (λ (k : ℕ). LineWordNext text (a + 1) (Ok (gathered (AnElement Down) k))) p
           (on (lex_word (codes "down") c rest (next s) refl off (omega arith) (omega arith)) (known (AnElement Down) (spelt_there (codes "down") c rest (next s)))),
     )
 word_trip Columns c rest text a off s =
     let p : a + 1 + 7 ≡ a + 8 = omega arith in (
       lex_open s,
-      subst (λ (k : ℕ). LineWordNext text (a + 1) (Ok (record { word = AnElement Columns; to = k }))) p
+      subst (λ (k : ℕ). LineWordNext text (a + 1) (Ok (gathered (AnElement Columns) k))) p
           (on (lex_word (codes "columns") c rest (next s) refl off (omega arith) (omega arith)) (known (AnElement Columns) (spelt_there (codes "columns") c rest (next s)))),
     )
 
@@ -93,7 +94,7 @@ first_space (Erase ∷ os) rest h = (_, refl)
 -- the line of an element, from its bracket on
 line_trip : (e : Element) (es : List Element) (rest : List ℕ) (text : List ℕ) (a : ℕ)
     → Stands text a (element_line e ++ rest) → is_filled e ≡ true → length es < 16
-    → Lexed text a (Ok (token Open a (a + 1))) × LineAt text es (token Open a (a + 1)) (Ok (gathered (es ++ (e ∷ [])) (a + length (element_line e))))
+    → Lexed text a (Ok (token Open a (a + 1))) × LineAt text es a (a + 1) (Ok (gathered (es ++ (e ∷ [])) (a + length (element_line e))))
 line_trip e es rest text a s filled few =
     let h = heading (order_of e) in
     let os = operations_of e in
@@ -148,7 +149,7 @@ lines_trip (e ∷ es) done rest text a s all few some =
 -- the first line
 title_trip : (name rest : List ℕ) (text : List ℕ)
     → Stands text 0 (codes "(test " ++ (name ++ (10 ∷ rest))) → is_name name ≡ true → length text ≤ 4096
-    → TitleLine text (Ok (record { name = token Word 6 (6 + length name); to = 6 + length name + 1 })) × (bytes_of text (token Word 6 (6 + length name)) ≡ name)
+    → TitleLine text (Ok (gathered (bytes_of text (token Word 6 (6 + length name))) (6 + length name + 1))) × (bytes_of text (token Word 6 (6 + length name)) ≡ name)
 title_trip name rest text s named long =
     let n : ℕ = length name in
     let outer = and_parts (leb 1 n) (leb n 16 && every is_letter_or_digit name) named in
