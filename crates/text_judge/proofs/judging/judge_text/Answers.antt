@@ -1,10 +1,11 @@
 use Rattle.std.proofs.Common.{length, Err, vec_len, sym, refl, ap, ◌∙◌, subst, arith}
 use Rattle.cam.specs.declared.fault.Reason.TheVariants.{BufferTooShort}
-use Rattle.cam.proofs.Asking.{refused_not_0}
+use Rattle.std.proofs.lemmas.Result.{err_from_is_err_and}
 use Rattle.words.specs.Readings.{Reading, on, off}
 use Rattle.words.proofs.Rules.{pinned}
 use Rattle.chart.specs.Chart.{Charted}
-use Rattle.bench.specs.Judging.{Judges, judged_state}
+use Rattle.bench.specs.Judging.{judge_questions, Judges, judged_state}
+use Rattle.bench.proofs.WholeRun.{granted_in, at_ok}
 use Rattle.planes.specs.Planes.{build_of, state_of}
 use Rattle.planes.specs.Formed.{well_formed}
 use Rattle.array_text.specs.Grammar.{enough, too_little}
@@ -24,43 +25,45 @@ returns-then-chart-lt-CHART_BYTES c =
       untouched_without_memory = (λ _. refl, λ _. refl);
     }
 
-pub returns-in-Err : goal.returns-in-Err
-returns-in-Err c =
-    record {
-      text_judged = pinned (judge_one _ _ _) (on (enough (omega arith)) c.in-Err.ensures.text_read.reads);
+pub returns-in_err-array : goal.returns-in_err-array
+returns-in_err-array c =
+    let p = err_from_is_err_and c.from_residual.result c.from_residual.ensures.1 in
+    let e = c.in_err-array.ensures in
+    rw (p.1, p.2) record {
+      text_judged = pinned (judge_one _ _ _) (on (enough (omega arith)) e.text_read.reads);
       refused_leaves_the_chart = refl;
-      records_handed_back = λ bytes. c.in-Err.ensures.records_afterwards;
-      untouched_without_memory = (λ few. absurd (omega arith), c.in-Err.ensures.untouched_without_memory);
-    }
-
-pub returns-in-Ok-judge_array : goal.returns-in-Ok-judge_array
-returns-in-Ok-judge_array c =
-    let m = c.in-Ok.ensures.text_read in
-    let j = c.in-Ok-judge_array.ensures in
-    let p = c.in-Ok.array in
-    let d = m.description in
-    let told : Judges (described d) (new_state (described d)) c.in-Ok-judge_array.judged.judgement =
-    subst (λ B. Judges B (new_state B) c.in-Ok-judge_array.judged.judgement) m.build (subst (λ S. Judges (build_of p) S c.in-Ok-judge_array.judged.judgement) m.state j.judgement_is_right) in
-    let none = sound_without_lines d.words d.width d.defects m.inside (subst (Exactly d.defects) m.build m.each_defect_and_no_other) in
-    record {
-      text_judged = record {
-        description = d;
-        reading = pinned (judge_one _ _ _) (on (enough (omega arith)) m.reading.reads);
-        judgement_is_right = told;
-        sound_exactly_without_a_defect_line = (λ e. none.0 (told.sound.0 e), λ n. told.sound.1 (none.1 n));
-        every_byte = subst (λ B. Charted B c.args.chart.now c.judge_array.new.buffer) m.build j.every_byte;
-        build_stays = j.build_stays ∙ m.build;
-        only_these_operations = j.only_these_operations ∙ ap (judged_state (build_of p)) m.state ∙ ap (λ B. judged_state B (new_state B)) m.build;
-      };
-      refused_leaves_the_chart = j.every_byte.size;
-      records_handed_back = c.in-Ok.ensures.untouched_without_memory;
-      untouched_without_memory = omega arith;
+      records_handed_back = λ bytes. e.records_afterwards;
+      untouched_without_memory = (λ few. absurd (omega arith), e.untouched_without_memory);
     }
 
 -- nothing of the judging is refused
-pub returns-in-Err-judge_array : goal.returns-in-Err-judge_array
-returns-in-Err-judge_array c =
-    let m = c.in-Ok.ensures.text_read in
-    let p = c.in-Ok.array in
+pub returns : goal.returns
+returns c =
+    let m = c.in_ok-array.ensures.text_read in
+    let p = c.in_ok-array.array in
+    let d = m.description in
     let f = well_formed p in
-    absurd (refused_not_0 _ _ c.in-Err-judge_array.ensures.asks_in_order (judging_granted (build_of p) (state_of p) (length c.args.chart.now) f.few_words f.few_bits (ap (λ S. S.tally) m.state) (omega arith)))
+    let e = c.judge_array.ensures in
+    let granted = granted_in (λ e. e.fault) (judge_questions (build_of p) (state_of p) (length c.args.chart.now)) c.judge_array.result
+    (judging_granted (build_of p) (state_of p) (length c.args.chart.now) f.few_words f.few_bits (ap (λ S. S.tally) m.state) (omega arith)) e.asks_in_order in
+    let j = granted.0 in
+    let told = at_ok _ _ _ _ granted.1 c.map_err.ensures.cases in
+    let right = at_ok _ _ _ _ granted.1 e.judgement_is_right in
+    let bytes = at_ok _ _ _ _ granted.1 e.every_byte in
+    let judges : Judges (described d) (new_state (described d)) j.judgement =
+    subst (λ B. Judges B (new_state B) j.judgement) m.build (subst (λ S. Judges (build_of p) S j.judgement) m.state right) in
+    let none = sound_without_lines d.words d.width d.defects m.inside (subst (Exactly d.defects) m.build m.each_defect_and_no_other) in
+    rw told record {
+      text_judged = record {
+        description = d;
+        reading = pinned (judge_one _ _ _) (on (enough (omega arith)) m.reading.reads);
+        judgement_is_right = judges;
+        sound_exactly_without_a_defect_line = (λ e. none.0 (judges.sound.0 e), λ n. judges.sound.1 (none.1 n));
+        every_byte = subst (λ B. Charted B c.args.chart.now c.judge_array.new.buffer) m.build bytes;
+        build_stays = at_ok _ _ _ _ granted.1 e.build_stays ∙ m.build;
+        only_these_operations = at_ok _ _ _ _ granted.1 e.only_these_operations ∙ ap (judged_state (build_of p)) m.state ∙ ap (λ B. judged_state B (new_state B)) m.build;
+      };
+      refused_leaves_the_chart = bytes.size;
+      records_handed_back = c.in_ok-array.ensures.untouched_without_memory;
+      untouched_without_memory = omega arith;
+    }
