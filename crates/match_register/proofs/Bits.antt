@@ -1,7 +1,8 @@
 -- The register's bits, one by one.
-use Rattle.std.proofs.Common.{◌≡◌, ℕ, ◌-◌, ◌^◌, ◌<◌, Bool, true, false, cond, not, ◌&&◌, ◌||◌, eqb, ltb, sym, ap, ◌∙◌, arith}
+use Rattle.std.proofs.Common.{◌≡◌, ℕ, ◌-◌, ◌^◌, ◌<◌, Bool, true, false, cond, not, ◌&&◌, ◌||◌, eqb, ltb, sym, ap, ◌∙◌, Option, None, Some, refl, arith}
 use lib.Bits.{bit_and, bit_or, bit_xor}
 use Rattle.std.proofs.lemmas.Bool.{eq-eqb, eqb-true, eqb-false, ne_eqb, lt-ltb, ltb-true, and_from}
+use Rattle.std.specs.Option.{is_none, unwrap_or}
 use Rattle.cam.specs.Bits.{bit}
 use Rattle.cam.specs.Model.{written_bit, agrees}
 use Rattle.cam.specs.declared.defect.Storage.TheVariants.{Good}
@@ -38,16 +39,20 @@ writing n p m a k j fits z =
     let other : eqb k a ≡ false = ne_eqb k a (λ q. ne (q ∙ z)) in
     simp (e, other))
 
-pub marking : (mark stuck : Bool) (a k : ℕ) → a ≡ 0
-    → (eqb k 0 && (true && not stuck)) ≡ cond (eqb k a && ltb k 1) (cond (eqb k 0 && stuck) (eqb k 0 && (mark && not stuck)) true) (eqb k 0 && (mark && not stuck))
-marking mark stuck a k z =
+pub marking : (old new : Option Bool) (a k : ℕ) → a ≡ 0 → unwrap_or new false ≡ not (is_none old)
+    → (eqb k 0 && unwrap_or new false) ≡ cond (eqb k a && ltb k 1) (cond (eqb k 0 && is_none old) (eqb k 0 && unwrap_or old false) true) (eqb k 0 && unwrap_or old false)
+marking old new a k z marked =
     split (eqb k 0)
     (λ e.
     let k0 : k ≡ 0 = eqb-true k 0 e in
     let same : eqb k a ≡ true = eq-eqb k a (omega arith) in
     let first : ltb k 1 ≡ true = lt-ltb k 1 (omega arith) in
-    simp (e, same, first) (grind arith))
+    simp (e, same, first, marked) (kept old))
     (λ e.
     let ne : k ≡ 0 → ⊥ = eqb-false k 0 e in
     let other : eqb k a ≡ false = ne_eqb k a (λ q. ne (q ∙ z)) in
     simp (e, other))
+  where
+    kept : (m : Option Bool) → not (is_none m) ≡ cond (is_none m) (unwrap_or m false) true
+    kept None = refl
+    kept (Some b) = refl

@@ -1,6 +1,7 @@
 -- What a match register means: its size and defects, its held bits and mark, and why it is well formed.
-use Rattle.std.specs.Prelude.{min, Bool, false, not, ◌&&◌, ◌==◌, nat_lt}
-use Rattle.std.proofs.Common.{ap, arith}
+use Rattle.std.specs.Prelude.{◌≡◌, min, Bool, true, false, ◌&&◌, ◌==◌, nat_lt, Option, None, Some, refl}
+use Rattle.std.specs.Option.{is_none, unwrap_or}
+use Rattle.std.proofs.Common.{sym, ap, arith}
 use Rattle.std.proofs.lemmas.Bool.{true≢false, and_parts, and_right}
 use Rattle.cam.specs.Bits.{bit}
 use Rattle.cam.specs.Defects.{is_good}
@@ -20,15 +21,19 @@ made_build stuck =
     }
 
 abbrev pub register_build : MatchRegister → Build
-register_build r = made_build r.stuck
+register_build r = made_build (is_none r.mark)
 
 abbrev pub register_state : MatchRegister → State
 register_state r =
     record {
       held = λ k j. (k == 0 && nat_lt j 8) && bit r.held j;
-      mark = λ k. (k == 0) && (r.mark && not r.stuck);
+      mark = λ k. (k == 0) && unwrap_or r.mark false;
       tally = min r.tally tally_cap;
     }
+
+stuck_clear : (m : Option Bool) → is_none m ≡ true → unwrap_or m false ≡ false
+stuck_clear None e = refl
+stuck_clear (Some b) e = absurd (true≢false (sym e))
 
 pub register_formed : (r : MatchRegister) → WellFormed (register_build r) (register_state r)
 register_formed r =
@@ -40,6 +45,6 @@ register_formed r =
       steady = record {
         low = λ k j hk hj e. absurd (true≢false (ap is_good e));
         high = λ k j hk hj e. absurd (true≢false (ap is_good e));
-        clear = λ k hk e. and_right (k == 0) _ (and_right r.mark _ (ap not (and_parts (k == 0) r.stuck e).1));
+        clear = λ k hk e. and_right (k == 0) _ (stuck_clear r.mark (and_parts (k == 0) (is_none r.mark) e).1);
       };
     }

@@ -35,7 +35,7 @@ impl CamArray for MatchRegister {
             return;
         }
         self.held = (self.held & mask) | (pattern & !mask);
-        self.mark = true;
+        self.mark = self.mark.map(|_| true);
     }
 
     fn read(&mut self, word: WordIndex) -> u64 {
@@ -49,13 +49,13 @@ impl CamArray for MatchRegister {
 
     fn compare(&mut self, pattern: u64, mask: u64) -> bool {
         self.tally = one_more(self.tally);
-        self.mark & !self.stuck & ((self.held ^ pattern) & !mask & 255 == 0)
+        self.mark.unwrap_or(false) & ((self.held ^ pattern) & !mask & 255 == 0)
     }
 
     fn erase(&mut self, word: WordIndex) {
         self.tally = one_more(self.tally);
         if word.number < WORDS {
-            self.mark = false;
+            self.mark = self.mark.map(|_| false);
         }
     }
 }

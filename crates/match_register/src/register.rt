@@ -3,12 +3,11 @@ ghost use Rattle.std.specs.Prelude.{◌≡◌};
 ghost use Rattle.match_register.specs.Register.{register_build, register_state, made_build};
 ghost use Rattle.cam.specs.Defects.{cleared};
 
-// Bits of `held` from 8 up do not count, and a stuck mark counts as clear whatever `mark` says.
+// Bits of `held` from 8 up do not count. A stuck mark, which is never set, is `None`.
 #[derive(Drop)]
 pub struct MatchRegister {
     pub(crate) held: u64,
-    pub(crate) mark: bool,
-    pub(crate) stuck: bool,
+    pub(crate) mark: Option<bool>,
     pub(crate) tally: u64,
 }
 
@@ -19,8 +18,7 @@ impl MatchRegister {
     {
         MatchRegister {
             held: 0,
-            mark: false,
-            stuck,
+            mark: (!stuck).then_some(false),
             tally: 0,
         }
     }

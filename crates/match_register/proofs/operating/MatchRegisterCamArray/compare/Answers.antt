@@ -1,4 +1,4 @@
-use Rattle.std.proofs.Common.{◌^◌, ◌<◌, not, ◌&&◌, refl, sym, ap, ◌∙◌, arith, rules}
+use Rattle.std.proofs.Common.{◌^◌, ◌<◌, ◌&&◌, refl, sym, ◌∙◌, ap₂, arith, rules}
 use Rattle.std.proofs.Math.Bool.{or-false}
 use Rattle.cam.proofs.Values.{none_set}
 use Rattle.match_register.proofs.Bits.{agreeing}
@@ -10,4 +10,4 @@ returns-clause-some_word_matches c =
     let p = c.args.pattern in
     let m = c.args.mask in
     let fits : m < 2 ^ 64 = search rules in
-    ap (λ t. (r.mark && not r.stuck) && t) (none_set 8 _ 255 _ (omega arith) refl (λ j l. agreeing r.held p m j fits l)) ∙ sym (or-false _)
+    ap₂ ◌&&◌ c.unwrap_or.ensures (none_set 8 _ 255 _ (omega arith) refl (λ j l. agreeing r.held p m j fits l)) ∙ sym (or-false _)
