@@ -1,5 +1,6 @@
 // The cell field itself: making it and planting stuck marks.
 ghost use Rattle.std.specs.Prelude.{◌≡◌, ◌*◌, ◌≤◌, not, [], ◌∷◌, map, length, MatchResult, nat_le};
+ghost use Rattle.cam.specs.Model.{tally_cap};
 ghost use Rattle.cam.specs.Defects.{within_limits, has_word, with_stuck_mark, unmarked};
 ghost use Rattle.cam.specs.Refusals.{Asks, AsksIn, ask};
 
@@ -9,7 +10,8 @@ use cam::index::WordIndex;
 use cam::size::Size;
 use cells::kind::CellKind;
 
-// An array over lent cells: cell (a, j) stands at a × width + j. The marks and the tally are its own.
+// An array over lent cells: cell (a, j) stands at a × width + j. The marks and the tally are its own, room for the marks
+// of the largest array included, since the caller hands over cells alone and a library allocates nothing.
 #[derive(Drop)]
 pub struct CellField<'a, C> {
     pub(crate) cells: &'a mut [C],
@@ -20,6 +22,7 @@ pub struct CellField<'a, C> {
     ghost some_bits: { 1 ≤ size.width },
     ghost few_bits: { size.width ≤ 64 },
     ghost cell_for_each_bit: { size.words * size.width ≤ length cells.now },
+    ghost tally_within: { tally ≤ tally_cap },
 }
 
 // No field was made: the cells back as they were, and why.
@@ -29,6 +32,7 @@ pub struct NotMade<'a, C> {
     pub fault: Fault,
 }
 
+// For a caller that needs the refusal alone.
 impl<C> From<NotMade<'_, C>> for Fault {
     ghost from_gives = { λ error fault. fault ≡ error.fault };
 

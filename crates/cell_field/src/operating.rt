@@ -9,7 +9,7 @@ use crate::mark::Mark;
 use crate::rows::{read_row, row_matches, write_row};
 use cam::array::CamArray;
 use cam::index::WordIndex;
-use cam::tally::{TALLY_CAP, one_more};
+use cam::tally::one_more;
 use cells::kind::CellKind;
 
 impl<C: CellKind> CellField<'_, C> {
@@ -58,7 +58,7 @@ impl<C: CellKind> CamArray for CellField<'_, C> {
     }
 
     fn tally(&self) -> u64 {
-        self.tally.min(TALLY_CAP)
+        self.tally
     }
 
     fn write(&mut self, word: WordIndex, pattern: u64, mask: u64) {
