@@ -6,6 +6,7 @@ use Rattle.cam.specs.Machine.{upward}
 use Rattle.cam.specs.Model.{Build, State, counted, hit}
 use Rattle.cam.specs.Operations.{after_all}
 use Rattle.cam.specs.Patterns.{equal_bits, all_but}
+use Rattle.chart.specs.Chart.{Hits}
 use Rattle.cam.proofs.BitLaws.{Built, built_none}
 use Rattle.cam.proofs.Operating.{after_up}
 
@@ -52,3 +53,14 @@ module _ (B : Build) (b : Bool) (S : State) (i hits : ℕ) (E : Build) (T : Stat
         marks = ap (λ U. U.mark) u ∙ asked.marks;
         built = built;
       }
+
+-- every column is compared
+pub asked_all : (B : Build) (b : Bool) (S : State) (n hits : ℕ) (E : Build) (T : State) → n ≡ B.width → Asked B b S n hits E T → Hits B b S hits E T
+asked_all B b S n hits E T all asked =
+    record {
+      each = λ j l. asked.built.0 j (omega arith);
+      bits = asked.bits;
+      marks = asked.marks;
+      ends = asked.ends ∙ ap (λ (n : ℕ). after_all B (upward n (one B b)) S) all;
+      stays = asked.stays;
+    }

@@ -3,11 +3,10 @@ use Rattle.std.proofs.Common.{◌≡◌, ℕ, ◌<◌, Bool, true, false, List, 
 use Rattle.cam.specs.declared.operation.Operation.{Operation}
 use Rattle.cam.specs.declared.operation.Operation.TheVariants.{Read, Compare, Erase}
 use Rattle.cam.specs.Model.{Build, State, written, erased, counted, read_word, hit, bit}
-use Rattle.cam.specs.Operations.{after_all}
 use Rattle.cam.specs.Patterns.{equal_bits, all_but}
 use Rattle.cam.proofs.Operating.{Did, did_then}
 use Rattle.march.specs.Tests.{word}
-use Rattle.chart.specs.Chart.{on_each_column, writing, word_operations, lowered, raised, Answered}
+use Rattle.chart.specs.Chart.{on_each_column, Hits, writing, word_operations, lowered, raised, Answered}
 
 -- the same bits and marks, whatever the tallies
 pub record Alike (S T : State) : Type 0 where
@@ -32,14 +31,6 @@ alike_hit B p m S T e = ap₂ (λ h k. hit B p m (record { held = h; mark = k; t
 
 alike_read : (B : Build) (a : ℕ) (S T : State) → Alike S T → read_word B a S ≡ read_word B a T
 alike_read B a S T e = ap (λ h. read_word B a (record { held = h; mark = S.mark; tally = 0 })) e.bits
-
--- a call that compares on each column
-pub record Hits (B : Build) (b : Bool) (S : State) (r : ℕ) (E : Build) (T : State) : Type 0 where
-  pub each : (j : ℕ) → j < B.width → bit r j ≡ hit B (equal_bits B.width b) (all_but B.width j) S
-  pub bits : T.held ≡ S.held
-  pub marks : T.mark ≡ S.mark
-  pub ends : T ≡ after_all B (on_each_column B.width b) S
-  pub stays : E ≡ B
 
 hits_alike : (B : Build) (b : Bool) (S : State) (r : ℕ) (E : Build) (T : State) → Hits B b S r E T → Alike T S
 hits_alike B b S r E T h = record { bits = h.bits; marks = h.marks }
@@ -113,23 +104,7 @@ module _ (B0 B1 B2 B3 B4 B5 B6 B7 B8 B9 B10 B11 : Build) (S0 S1 S2 S3 S4 S5 S6 S
   a9 : Alike S9 R
   a9 = alike_then S9 S8 R (hits_alike B8 true S8 o1 B9 S9 h9) a8
 
-  pub visit_answers : (zeros ones p' : ℕ) (seen : Bool)
-      → zeros ≡ read_word B2 a S2 → p' ≡ equal_bits B0.width true → seen ≡ hit B3 0 p' S3 → ones ≡ read_word B7 a S7
-      → Answered B0 a S0 (record { zeros = zeros; seen = seen; zero0 = z0; zero1 = z1; ones = ones; one1 = o1; one0 = o0 })
-  unfolding L R
-  visit_answers zeros ones p' seen zs p'-is sn os =
-      record {
-        zeros = zs ∙ ap₂ (λ (B : Build) S. read_word B a S) b2 s2;
-        seen = sn ∙ ap₂ (λ (B : Build) (p : ℕ). hit B 0 p S3) (e3 ∙ b2) p'-is
-            ∙ alike_hit B0 0 (equal_bits B0.width true) S3 L (alike_then S3 S2 L (record { bits = ap (λ S. S.held) h3; marks = ap (λ S. S.mark) h3 }) (alike_same S2 L s2));
-        zero0 = hits_at B0 B4 B5 false S4 L S5 z0 b4 a4 h5;
-        zero1 = hits_at B0 B5 B6 true S5 L S6 z1 (h5.stays ∙ b4) a5 h6;
-        ones = os ∙ ap (λ (B : Build). read_word B a S7) (e7 ∙ b6) ∙ alike_read B0 a S7 R a7;
-        one1 = hits_at B0 B8 B9 true S8 R S9 o1 b8 a8 h9;
-        one0 = hits_at B0 B9 B10 false S9 R S10 o0 (h9.stays ∙ b8) a9 h10;
-      }
-
-  pub visit_did : Did B0 (word_operations B0.width a) S0 B11 S11
+  visit_did : Did B0 (word_operations B0.width a) S0 B11 S11
   unfolding L
   visit_did =
       let first : List Operation = writing B0.width a true ∷ writing B0.width a false ∷ Read (word a) ∷ Compare 0 (equal_bits B0.width true) ∷ [] in
@@ -143,3 +118,23 @@ module _ (B0 B1 B2 B3 B4 B5 B6 B7 B8 B9 B10 B11 : Build) (S0 S1 S2 S3 S4 S5 S6 S
       let d10 = did_then B0 B9 B10 _ (λ B. on_each_column B.width false) S0 S9 S10 d9 (hits_did B9 false S9 o0 B10 S10 h10) in
       let d11 = did_then B0 B10 B11 _ (λ B. Erase (word a) ∷ []) S0 S10 S11 d10 (record { stays = e11; ends = h11 }) in
       subst (λ os. Did B0 os S0 B11 S11) (simp append_assoc) d11
+
+  -- what the word answers, and what is done at it
+  pub visit_told : (read0 read1 p' : ℕ) (seen : Bool)
+      → read0 ≡ read_word B2 a S2 → p' ≡ equal_bits B0.width true → seen ≡ hit B3 0 p' S3 → read1 ≡ read_word B7 a S7
+      → Answered B0 a S0 (record { zeros = read0; seen = seen; zero0 = z0; zero1 = z1; ones = read1; one1 = o1; one0 = o0 })
+      × Did B0 (word_operations B0.width a) S0 B11 S11
+  unfolding L R
+  visit_told read0 read1 p' seen zs p'-is sn os = (
+    record {
+      zeros = zs ∙ ap₂ (λ (B : Build) S. read_word B a S) b2 s2;
+      seen = sn ∙ ap₂ (λ (B : Build) (p : ℕ). hit B 0 p S3) (e3 ∙ b2) p'-is
+          ∙ alike_hit B0 0 (equal_bits B0.width true) S3 L (alike_then S3 S2 L (record { bits = ap (λ S. S.held) h3; marks = ap (λ S. S.mark) h3 }) (alike_same S2 L s2));
+      zero0 = hits_at B0 B4 B5 false S4 L S5 z0 b4 a4 h5;
+      zero1 = hits_at B0 B5 B6 true S5 L S6 z1 (h5.stays ∙ b4) a5 h6;
+      ones = os ∙ ap (λ (B : Build). read_word B a S7) (e7 ∙ b6) ∙ alike_read B0 a S7 R a7;
+      one1 = hits_at B0 B8 B9 true S8 R S9 o1 b8 a8 h9;
+      one0 = hits_at B0 B9 B10 false S9 R S10 o0 (h9.stays ∙ b8) a9 h10;
+    },
+    visit_did,
+  )

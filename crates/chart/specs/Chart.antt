@@ -15,6 +15,15 @@ use Rattle.chart.specs.Bytes.{chart_byte, byte_of}
 abbrev pub on_each_column : ℕ → Bool → List Operation
 on_each_column W b = upward W (λ j. Compare (equal_bits W b) (all_but W j) ∷ [])
 
+-- What a compare of equal bits on each single column answers, as bits of a number, and that it changes nothing but the
+-- tally.
+pub record Hits (B : Build) (b : Bool) (S : State) (hits : ℕ) (E : Build) (T : State) : Type 0 where
+  pub each : (j : ℕ) → j < B.width → bit hits j ≡ hit B (equal_bits B.width b) (all_but B.width j) S
+  pub bits : T.held ≡ S.held
+  pub marks : T.mark ≡ S.mark
+  pub ends : T ≡ after_all B (on_each_column B.width b) S
+  pub stays : E ≡ B
+
 abbrev pub writing : ℕ → ℕ → Bool → Operation
 writing W a b = Write (word a) (equal_bits W b) 0
 

@@ -1,6 +1,7 @@
 // What a word answers while it is charted, and the byte that follows for each of its cells.
-ghost use Rattle.std.specs.Prelude.{◌≡◌, ◌≤◌, if◌then◌else◌};
+ghost use Rattle.std.specs.Prelude.{◌≡◌, ◌≤◌, nat_lt};
 ghost use Rattle.chart.specs.Bytes.{byte_of};
+ghost use Rattle.chart.specs.Chart.{count_below};
 
 use cam::bits::bit_is_set;
 use cam::index::ColumnIndex;
@@ -19,14 +20,6 @@ pub struct Answers {
     pub one0: u64,
 }
 
-// A part of a byte.
-fn part(holds: bool, weight: u8) -> u8
-    ensures weight_or_nothing { result ≡ (if holds then weight else 0) }
-    ensures at_most_the_weight { result ≤ weight }
-{
-    if holds { weight } else { 0 }
-}
-
 impl Answers {
     // The byte of a column.
     pub fn byte(&self, column: ColumnIndex) -> u8
@@ -35,12 +28,22 @@ impl Answers {
         let at = column.number;
         let zero = !bit_is_set(self.zeros, at);
         let one = bit_is_set(self.ones, at);
-        part(self.seen && (zero && !bit_is_set(self.zero0, at)), 1)
-            + part(zero && bit_is_set(self.zero1, at), 2)
-            + part(self.seen && (one && !bit_is_set(self.one1, at)), 4)
-            + part(one && bit_is_set(self.one0, at), 8)
-            + part(!one, 16)
-            + part(!zero, 32)
-            + part(!self.seen, 64)
+        (self.seen && (zero && !bit_is_set(self.zero0, at))) as u8
+            + 2 * (zero && bit_is_set(self.zero1, at)) as u8
+            + 4 * (self.seen && (one && !bit_is_set(self.one1, at))) as u8
+            + 8 * (one && bit_is_set(self.one0, at)) as u8
+            + 16 * !one as u8
+            + 32 * !zero as u8
+            + 64 * !self.seen as u8
+    }
+
+    // How many of the columns below `width` have a byte above 0.
+    pub(crate) fn blemished(&self, width: u8) -> u32
+        ensures bytes_above_0 { result ≡ count_below width (λ j. nat_lt 0 (byte_of self.now j)) }
+        ensures at_most_the_width { result ≤ width }
+    {
+        (0..width)
+            .filter(|number| self.byte(ColumnIndex { number: *number }) > 0)
+            .count() as u32
     }
 }

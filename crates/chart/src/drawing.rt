@@ -1,20 +1,20 @@
 // Drawing the chart of any array.
-ghost use Rattle.std.specs.Prelude.{◌≡◌, ℕ, ◌+◌, ◌*◌, ◌<◌, ◌≤◌, min, Bool, [], ◌∷◌, length, nat_lt};
+ghost use Rattle.std.specs.Prelude.{◌≡◌, ℕ, ◌+◌, ◌*◌, ◌<◌, ◌≤◌, min, Bool, [], ◌∷◌, map, length, nat_lt};
+ghost use Rattle.std.specs.List.{range_with_len};
 ghost use Rattle.cam.specs.Defects.{blemished};
-ghost use Rattle.cam.specs.Model.{hit, bit, tally_cap};
-ghost use Rattle.cam.specs.Patterns.{equal_bits, all_but};
+ghost use Rattle.cam.specs.Model.{tally_cap};
 ghost use Rattle.cam.specs.Operations.{after_all};
 ghost use Rattle.cam.specs.declared.operation.Operation.TheVariants.{Erase};
 ghost use Rattle.cam.specs.Machine.{upward};
 ghost use Rattle.march.specs.Tests.{word as word_of};
 ghost use Rattle.chart.specs.Bytes.{byte_of, chart_byte};
-ghost use Rattle.chart.specs.Chart.{ChartLength, on_each_column, word_operations, chart_operations, Answered, count_below, Row, Charted, blemishes};
+ghost use Rattle.chart.specs.Chart.{ChartLength, word_operations, chart_operations, Answered, Hits, Charted, blemishes};
 
 use crate::answers::Answers;
 use cam::array::CamArray;
 use cam::bits::{all_but_column, equal_bits};
 use cam::index::{ColumnIndex, WordIndex};
-use cam::size::Size;
+use cam::size::{Size, size_of};
 
 // How many operations a chart takes on an array of this size.
 pub fn operation_count(size: Size) -> u32
@@ -27,15 +27,12 @@ pub fn operation_count(size: Size) -> u32
 
 // The columns on which a compare of equal bits hits, every other column blocked.
 fn hits_by_column<C: CamArray>(array: &mut C, value: bool) -> u64
-    ensures hit_of_each_column { (j : ℕ) → j < (C.build array.old).width → bit result j ≡ hit (C.build array.old) (equal_bits (C.build array.old).width value) (all_but (C.build array.old).width j) (C.state array.old) }
-    ensures bits_stay { (C.state array.new).held ≡ (C.state array.old).held }
-    ensures marks_stay { (C.state array.new).mark ≡ (C.state array.old).mark }
-    ensures state_after { C.state array.new ≡ after_all (C.build array.old) (on_each_column (C.build array.old).width value) (C.state array.old) }
-    ensures build_stays { C.build array.new ≡ C.build array.old }
+    ensures hits_of_the_columns { Hits (C.build array.old) value (C.state array.old) result (C.build array.new) (C.state array.new) }
 {
     let width = array.width();
     let pattern = equal_bits(width, value);
     let mut hits = 0u64;
+    // a loop and no chain, since each compare changes the array
     for number in 0..width {
         if array.compare(pattern, all_but_column(width, ColumnIndex { number })) {
             hits |= 1u64 << number;
@@ -83,25 +80,17 @@ fn erase_all<C: CamArray>(array: &mut C)
     }
 }
 
-// Writes the bytes of a word from place `start` of a buffer on, as far as they fit, and says how many are above 0.
-fn write_row(buffer: &mut [u8], start: usize, answers: &Answers, width: u8) -> u32
-    requires places_fit { start ≤ 65536 }
-    ensures bytes_of_the_word { Row answers.now start width buffer.old buffer.new }
-    ensures bytes_above_0 { result ≡ count_below width (λ j. nat_lt 0 (byte_of answers.now j)) }
-    ensures few { result ≤ width }
+// Writes the bytes of a word over its row of a buffer, of which the end may be missing.
+fn write_row(row: &mut [u8], answers: &Answers)
+    requires short_row { length row.old ≤ 64 }
+    ensures bytes_of_the_word { row.new ≡ map (byte_of answers.now) (range_with_len 0 (length row.old)) }
 {
-    let mut blemished = 0u32;
-    for number in 0..width {
-        let byte = answers.byte(ColumnIndex { number });
-        let place = start + number as usize;
-        if place < buffer.len() {
-            buffer[place] = byte;
-        }
-        if byte > 0 {
-            blemished += 1;
-        }
+    for (number, byte) in row.iter_mut().enumerate() {
+        let column = ColumnIndex {
+            number: number as u8,
+        };
+        *byte = answers.byte(column);
     }
-    blemished
 }
 
 // Draws the chart of an array at the front of a buffer, as far as it fits, and says how many cells are blemished. The
@@ -115,13 +104,15 @@ pub fn draw<C: CamArray>(array: &mut C, buffer: &mut [u8]) -> u32
     ensures build_stays { C.build array.new ≡ C.build array.old }
 {
     erase_all(array);
-    let width = array.width();
-    let mut start = 0usize;
+    let size = size_of(array);
+    let width = size.width as usize;
     let mut marred = 0u32;
-    for number in 0..array.words() {
+    for number in 0..size.words {
         let answers = visit_word(array, WordIndex { number });
-        marred += write_row(buffer, start, &answers, width);
-        start += width as usize;
+        let start = (number as usize * width).min(buffer.len());
+        let end = (start + width).min(buffer.len());
+        write_row(&mut buffer[start..end], &answers);
+        marred += answers.blemished(size.width);
     }
     marred
 }

@@ -1,8 +1,6 @@
-use Rattle.std.proofs.Common.{◌≡◌, ℕ, ◌+◌, ◌<◌, sym, ap, ◌∙◌, subst, arith}
-use Rattle.cam.specs.Machine.{upward}
-use Rattle.cam.specs.Operations.{after_all}
+use Rattle.std.proofs.Common.{◌+◌, ◌<◌, sym, ◌∙◌, subst, arith}
 use Rattle.cam.proofs.BitLaws.{Built, built_set, built_left}
-use Rattle.chart.proofs.Columns.{one, hits_at, asked_none, equal_at, but_at, asked_hit, asked_next}
+use Rattle.chart.proofs.Columns.{hits_at, asked_none, equal_at, but_at, asked_hit, asked_next, asked_all}
 use Rattle.chart.proofs.drawing.hits_by_column.Goals as goal
 use Rattle.chart.proofs.drawing.hits_by_column.Goals.{then-compare, else-compare}
 
@@ -30,15 +28,6 @@ loop-number-preserved g c =
 
 pub returns : goal.returns
 returns g c =
-    let m = g.C.CamArray in
-    let B = m.build c.args.array.now in
-    let S = m.state c.args.array.now in
-    let inv = c.loop-number.invariant in
-    let whole : c.loop-number.number ≡ B.width = omega (arith, c.width-width.ensures.bits_of_word) in
     record {
-      hit_of_each_column = λ j l. inv.built.0 j (omega arith);
-      bits_stay = inv.bits;
-      marks_stay = inv.marks;
-      state_after = inv.ends ∙ ap (λ (n : ℕ). after_all B (upward n (one B c.args.value)) S) whole;
-      build_stays = inv.stays;
+      hits_of_the_columns = asked_all _ c.args.value _ c.loop-number.number _ _ _ (omega (arith, c.width-width.ensures.bits_of_word)) c.loop-number.invariant;
     }
