@@ -10,6 +10,7 @@ use planes::array::PlaneArray;
 use planes::word::WordRecord;
 use report::printing::print_judgement;
 use std::alloc::Global;
+use std::io;
 
 const SIZE: Size = Size { words: 2, width: 3 };
 
@@ -33,14 +34,14 @@ fn example_array(heap: Global) -> anyhow::Result<PlaneArray> {
     Ok(array)
 }
 
-fn judge_example(rt: &HostRuntime) -> anyhow::Result<()> {
-    let array = example_array(rt.alloc())?;
-    let mut chart = vec![in rt.alloc(); 0u8; 6]?;
+fn judge_example(heap: Global, rt: &impl Print) -> anyhow::Result<()> {
+    let array = example_array(heap)?;
+    let mut chart = vec![in heap; 0u8; 6]?;
     let judged = judge_array(array, chart.as_mut_slice()).map_err(Fault::from)?;
-    print_judgement(&mut rt.stdout(), judged.judgement, chart.as_slice())?;
+    print_judgement(&mut io::writer(rt), judged.judgement, chart.as_slice())?;
     Ok(())
 }
 
 fn main(rt: HostRuntime) -> anyhow::Result<()> {
-    judge_example(&rt)
+    judge_example(rt.alloc(), &rt)
 }
