@@ -106,10 +106,6 @@ pub lexed_lies : (text : List ℕ) (a : ℕ) (r : Result Token Fault) → Lexed 
 lexed_lies text a (Ok t) x = further text a x.place t x.spaces.from (token_lies text x.place (Ok t) x.stands)
 lexed_lies text a (Err f) x = tt
 
--- a token that is not the end takes the reader on
-pub moves : {text : List ℕ} {a : ℕ} {t : Token} → Lexed text a (Ok t) → (t.kind ≡ End → ⊥) → a < t.to
-moves {text} {a} {t} x n = let l = lexed_lies text a (Ok t) x in let s = l.some n in omega (arith, l.after)
-
 every_from : (f : ℕ → Bool) (xs : List ℕ) → ((k : ℕ) → k < length xs → f (get_or xs k 0) ≡ true) → every f xs ≡ true
 every_from f [] h = refl
 every_from f (x ∷ xs) h = let first : f x ≡ true = h 0 (omega arith) in rw first (every_from f xs (λ k lt. h (suc k) (omega arith)))

@@ -1,30 +1,15 @@
--- A remark is read in one way, and ends ahead. Assumes nothing.
-use Rattle.std.proofs.Common.{◌≡◌, ℕ, ◌-◌, ◌<◌, List, IfOk, Ok, Err, codes, Result, sym, refl, ap, ◌∙◌, subst, arith}
+-- A remark is read in one way. Assumes nothing.
+use Rattle.std.proofs.Common.{◌≡◌, ℕ, ◌-◌, ◌<◌, List, Ok, Err, codes, Result, sym, refl, ap, ◌∙◌, subst, arith}
 use Rattle.cam.specs.declared.fault.Fault.{Fault}
 use Rattle.words.specs.declared.token.Kind.TheVariants.{Open, Close, Word}
 use Rattle.words.specs.Lexing.{Token}
 use Rattle.words.specs.Lexing.{Lexed}
 use Rattle.words.specs.Readings.{Then, on, off}
-use Rattle.words.specs.Forms.{not_wanted, WordNext, Ahead}
+use Rattle.words.specs.Forms.{not_wanted, WordNext}
 use Rattle.words.specs.Remarks.{Remark, shut, word, nest, lexed, other, too_deep, no_note, inner, remark_too_deep}
 use Rattle.words.proofs.Rules.{One, goes_on, stops_at, same_ok, same_err, ok_err}
 use Rattle.words.proofs.Lexemes.{lexed_one}
-use Rattle.words.proofs.Parts.{word_next_one, word_next_ahead, token_ahead, onward}
-
--- a remark ends ahead
-pub remark_ahead : {text : List ℕ} {n a : ℕ} {r : Result ℕ Fault} → Remark text n a r → IfOk r (Ahead text a)
-remark_ahead (shut x k) = token_ahead x
-remark_ahead {text} {a = a} {r} (word {t} x k rest) = onward (λ e. e) text a t.to r (token_ahead x).after (remark_ahead rest)
-remark_ahead {text} {a = a} {r} (nest {e} x k some w inside rest) =
-    let f = token_ahead x in
-    let g = word_next_ahead _ _ _ _ w in
-    let h = remark_ahead inside in
-    onward (λ e. e) text a e r (omega (arith, f.after, g.after, h.after)) (remark_ahead rest)
-remark_ahead (lexed x) = tt
-remark_ahead (other x c w o) = tt
-remark_ahead (too_deep x k z) = tt
-remark_ahead (no_note x k some w) = tt
-remark_ahead (inner x k some w i) = tt
+use Rattle.words.proofs.Parts.{word_next_one}
 
 -- what a remark is from its next token on, by the token's kind
 abbrev Opened : List ℕ → ℕ → ℕ → Result ℕ Fault → Type 0

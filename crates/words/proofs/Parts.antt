@@ -1,17 +1,16 @@
 -- The readers of one token: each reads one thing only, and where it ends. Assumes nothing.
-use Rattle.std.proofs.Common.{◌≡◌, ℕ, ◌≤◌, Bool, true, false, Decides, List, Option, Some, None, MatchOption, Err, IfOk, Ok, Result, sym, ap, ◌∙◌, refl, arith}
-use Rattle.std.proofs.lemmas.Result.{IfOk-weaker}
+use Rattle.std.proofs.Common.{◌≡◌, ℕ, Bool, true, false, Decides, List, Option, Some, None, MatchOption, Err, Ok, sym, ap, ◌∙◌, refl}
 use Rattle.std.specs.Option.{ok_or}
 use Rattle.cam.specs.declared.fault.Fault.{Fault}
 use Rattle.words.specs.declared.token.Kind.{Kind}
-use Rattle.words.specs.Readings.{on, off, Gathered, gathered, come_to}
-use Rattle.words.specs.Lexing.{Token, Lexed, Lies, bytes_of}
+use Rattle.words.specs.Readings.{on, off, gathered, come_to}
+use Rattle.words.specs.Lexing.{Token, Lexed, bytes_of}
 use Rattle.words.specs.declared.token.Token.{Token as Read}
 use Rattle.words.specs.Tokens.{token_to, SaysWord}
 use Rattle.words.specs.Choosing.{WantsOneOf, known, unknown, OneOfNext}
-use Rattle.words.specs.Forms.{not_wanted, Spells, Wants, wanted, unwanted, WantsWord, spelt, misspelt, WantsName, named, nameless, WantsEither, first, second, neither, Next, WordNext, NameNext, EitherNext, Ahead}
-use Rattle.words.proofs.Rules.{One, then_one, then_made}
-use Rattle.words.proofs.Lexemes.{clash, lexed_one, lexed_lies}
+use Rattle.words.specs.Forms.{not_wanted, Spells, Wants, wanted, unwanted, WantsWord, spelt, misspelt, WantsName, named, nameless, WantsEither, first, second, neither, Next, WordNext, NameNext, EitherNext}
+use Rattle.words.proofs.Rules.{One, then_one}
+use Rattle.words.proofs.Lexemes.{clash, lexed_one}
 
 wants_one : (k : Kind) (t : Token) → One (Wants k t)
 wants_one k t _ _ (wanted p) (wanted q) = refl
@@ -53,43 +52,6 @@ name_next_one text a = then_one (Lexed text a) WantsName (lexed_one text a) name
 
 pub either_next_one : (v w text : List ℕ) (a : ℕ) → One (EitherNext v w text a)
 either_next_one v w text a = then_one (Lexed text a) (WantsEither v w text) (lexed_one text a) (either_one v w text)
-
--- a token ends ahead of where it was looked for
-pub token_ahead : {text : List ℕ} {a : ℕ} {t : Token} → Lexed text a (Ok t) → Ahead text a t.to
-token_ahead {text} {a} {t} x = let l = lexed_lies text a (Ok t) x in record { after = omega (arith, l.after, l.order); inside = l.inside }
-
--- what ends ahead of b ends ahead of every place before b
-pub onward : {X : Type 0} (end : X → ℕ) (text : List ℕ) (a b : ℕ) (r : Result X Fault) → a ≤ b → IfOk r (λ x. Ahead text b (end x)) → IfOk r (λ x. Ahead text a (end x))
-onward end text a b r h m = IfOk-weaker r _ _ (λ e x. record { after = omega (arith, x.after); inside = x.inside }) m
-
-wants_ahead : (k : Kind) (text : List ℕ) (a : ℕ) (t : Token) (s : Result ℕ Fault) → Lexed text a (Ok t) → Wants k t s → IfOk s (Ahead text a)
-wants_ahead k text a t _ x (wanted p) = token_ahead x
-wants_ahead k text a t _ x (unwanted p) = tt
-
-pub next_ahead : (k : Kind) (text : List ℕ) (a : ℕ) (r : Result ℕ Fault) → Next k text a r → IfOk r (Ahead text a)
-next_ahead k text a r = then_made (Ahead text a) (wants_ahead k text a)
-
-word_ahead : (w text : List ℕ) (a : ℕ) (t : Token) (s : Result ℕ Fault) → Lexed text a (Ok t) → WantsWord w text t s → IfOk s (Ahead text a)
-word_ahead w text a t _ x (spelt p) = token_ahead x
-word_ahead w text a t _ x (misspelt p) = tt
-
-pub word_next_ahead : (w text : List ℕ) (a : ℕ) (r : Result ℕ Fault) → WordNext w text a r → IfOk r (Ahead text a)
-word_next_ahead w text a r = then_made (Ahead text a) (word_ahead w text a)
-
-name_lies : (text : List ℕ) (a : ℕ) (t : Token) (s : Result Token Fault) → Lexed text a (Ok t) → WantsName t s → IfOk s (Lies text a)
-name_lies text a t _ x (named p) = lexed_lies text a (Ok t) x
-name_lies text a t _ x (nameless p) = tt
-
-pub name_next_lies : (text : List ℕ) (a : ℕ) (r : Result Token Fault) → NameNext text a r → IfOk r (Lies text a)
-name_next_lies text a r = then_made (Lies text a) (name_lies text a)
-
-either_ahead : (v w text : List ℕ) (a : ℕ) (t : Token) (s : Result (Gathered Bool) Fault) → Lexed text a (Ok t) → WantsEither v w text t s → IfOk s (λ d. Ahead text a d.to)
-either_ahead v w text a t _ x (first p) = token_ahead x
-either_ahead v w text a t _ x (second n p) = token_ahead x
-either_ahead v w text a t _ x (neither n m) = tt
-
-pub either_next_ahead : (v w text : List ℕ) (a : ℕ) (r : Result (Gathered Bool) Fault) → EitherNext v w text a r → IfOk r (λ d. Ahead text a d.to)
-either_next_ahead v w text a r = then_made (λ d. Ahead text a d.to) (either_ahead v w text a)
 
 -- a token of the code says a word where the token of the text that it stands for does
 pub says : {text w : List ℕ} {e : ℕ} {t : Read} {b : Bool} → Decides b (SaysWord t w) → t.bytes.now ≡ bytes_of text (token_to e t) → b ≡ true → Spells text (token_to e t) w

@@ -1,5 +1,7 @@
 -- Rules that read one thing only, and how they are put together. Assumes nothing.
-use Rattle.std.proofs.Common.{◌≡◌, ℕ, IfOk, Ok, Err, Result, ap, subst, arith}
+use Rattle.std.proofs.Common.{◌≡◌, ℕ, IfOk, Ok, Err, Result, refl, ap, subst, arith}
+use Rattle.std.specs.Result.{IsErrAnd}
+use Rattle.std.proofs.lemmas.Result.{err_from_is_err_and}
 use Rattle.cam.specs.declared.fault.Fault.{Fault}
 use Rattle.words.specs.Readings.{Reading, Then, on, off}
 
@@ -39,3 +41,7 @@ stops_at {f} one p (off {f = g} p') = ap (λ h. Err h) (same_err g f (one (Err g
 pub then_made : {X Y : Type 0} {P : Result X Fault → Type 0} {Q : X → Result Y Fault → Type 0} {r : Result Y Fault} (Z : Y → Type 0) → ((x : X) (s : Result Y Fault) → P (Ok x) → Q x s → IfOk s Z) → Then P Q r → IfOk r Z
 then_made Z f (on p q) = f _ _ p q
 then_made Z f (off p) = tt
+
+-- what `?` hands on is the fault that it met
+pub same_fault : {X : Type 0} {f : Fault} (r : Result X Fault) → IsErrAnd r (λ e. e ≡ f) → r ≡ Err f
+same_fault r h = let p = err_from_is_err_and r h in rw (p.1, p.2) refl

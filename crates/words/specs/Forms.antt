@@ -1,5 +1,5 @@
 -- Layer 2 of a text, its smallest parts: one token that the grammar wants, and the fault if another comes.
-use Rattle.std.specs.Prelude.{◌≡◌, ℕ, ◌≤◌, Bool, true, false, List, length, Ok, Err, codes, Result, ◌≢◌}
+use Rattle.std.specs.Prelude.{◌≡◌, ℕ, Bool, true, false, List, Ok, Err, codes, Result, ◌≢◌}
 use Rattle.cam.specs.declared.fault.Reason.{Reason}
 use Rattle.cam.specs.declared.fault.Reason.TheVariants.{NotWanted}
 use Rattle.cam.specs.declared.fault.Layer.TheVariants.{Forms, Meaning}
@@ -59,8 +59,3 @@ EitherNext v w text a = Then (Lexed text a) (WantsEither v w text)
 -- a bit is exactly the word 0 or the word 1
 abbrev pub BitNext : List ℕ → ℕ → Result (Gathered Bool) Fault → Type 0
 BitNext = EitherNext (codes "0") (codes "1")
-
--- the place e lies in the text, and not before `a`
-pub record Ahead (text : List ℕ) (a e : ℕ) : Type 0 where
-  pub after : a ≤ e
-  pub inside : e ≤ length text

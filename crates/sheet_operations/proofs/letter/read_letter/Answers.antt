@@ -1,20 +1,17 @@
-use Rattle.std.proofs.lemmas.Result.{err_from_is_err_and}
 use Rattle.std.proofs.Common.{Ok, Err, ap, ◌∙◌}
 use Rattle.std.specs.Option.{ok_or}
-use Rattle.words.proofs.Rules.{pinned}
+use Rattle.words.proofs.Rules.{pinned, same_fault}
 use Rattle.sheet_operations.proofs.Ones.{letter_next_one, chosen, no_word}
 use Rattle.sheet_operations.proofs.letter.read_letter.Goals as goal
 
 pub returns-in_err-word-clause-reading : goal.returns-in_err-word-clause-reading
 returns-in_err-word-clause-reading c =
-    let p = err_from_is_err_and c.from_residual.result c.from_residual.ensures.1 in
-    rw (p.1, p.2) (pinned (letter_next_one _ _) (no_word c.in_err-word.ensures.reading.reads))
+    rw (same_fault _ c.from_residual.ensures.1) (pinned (letter_next_one _ _) (no_word c.in_err-word.ensures.reading.reads))
 
 pub returns-in_err-letter-clause-reading : goal.returns-in_err-letter-clause-reading
 returns-in_err-letter-clause-reading c =
-    let p = err_from_is_err_and c.from_residual-in_err-letter.result c.from_residual-in_err-letter.ensures.1 in
     let w = c.in_ok-word.ensures in
-    rw (p.1, p.2) (pinned (letter_next_one _ _) (chosen c.spelled.result (Err c.in_err-letter.field-0.0) w.spelling c.spelled.ensures.value_of_word w.reading.reads (c.in_err-letter.ensures.value ∙ ap (ok_or c.spelled.result) c.not_wanted.ensures.not_wanted_there)))
+    rw (same_fault _ c.from_residual-in_err-letter.ensures.1) (pinned (letter_next_one _ _) (chosen c.spelled.result (Err c.in_err-letter.field-0.0) w.spelling c.spelled.ensures.value_of_word w.reading.reads (c.in_err-letter.ensures.value ∙ ap (ok_or c.spelled.result) c.not_wanted.ensures.not_wanted_there)))
 
 pub returns-clause-reading : goal.returns-clause-reading
 returns-clause-reading c =

@@ -1,7 +1,6 @@
 use Rattle.std.proofs.Common.{refl, ◌∙◌}
-use Rattle.std.proofs.lemmas.Result.{err_from_is_err_and}
 use Rattle.words.specs.Readings.{on, off}
-use Rattle.words.proofs.Rules.{pinned}
+use Rattle.words.proofs.Rules.{pinned, same_fault}
 use Rattle.sheet_operations.specs.declared.letter.Letter.TheVariants.{Write, Read, Compare, Erase}
 use Rattle.sheet_operations.proofs.Ones.{rest_one, after_letter, Unclosed}
 use Rattle.sheet_operations.proofs.operation.rest.Goals as goal
@@ -9,29 +8,24 @@ use Rattle.sheet_operations.proofs.operation.rest.Goals.{in-Write+in_ok-bit_word
 
 pub returns-in_err-bit_word-in-Write-clause-reading : goal.returns-in_err-bit_word-in-Write-clause-reading
 returns-in_err-bit_word-in-Write-clause-reading c =
-    let p = err_from_is_err_and c.from_residual.result c.from_residual.ensures.1 in
-    rw (p.1, p.2) (pinned (rest_one _ _ _) (after_letter _ _ Write _ _ c.in-Write.is (off c.in_err-bit_word-in-Write.ensures.reading.reads)))
+    rw (same_fault _ c.from_residual.ensures.1) (pinned (rest_one _ _ _) (after_letter _ _ Write _ _ c.in-Write.is (off c.in_err-bit_word-in-Write.ensures.reading.reads)))
 
 pub returns-in_err-bit_word-in-Read-clause-reading : goal.returns-in_err-bit_word-in-Read-clause-reading
 returns-in_err-bit_word-in-Read-clause-reading c =
-    let p = err_from_is_err_and c.from_residual-in_err-bit_word-in-Read.result c.from_residual-in_err-bit_word-in-Read.ensures.1 in
-    rw (p.1, p.2) (pinned (rest_one _ _ _) (after_letter _ _ Read _ _ c.in-Read.is (off c.in_err-bit_word-in-Read.ensures.reading.reads)))
+    rw (same_fault _ c.from_residual-in_err-bit_word-in-Read.ensures.1) (pinned (rest_one _ _ _) (after_letter _ _ Read _ _ c.in-Read.is (off c.in_err-bit_word-in-Read.ensures.reading.reads)))
 
 pub returns-in_err-bit_word-in-Compare-clause-reading : goal.returns-in_err-bit_word-in-Compare-clause-reading
 returns-in_err-bit_word-in-Compare-clause-reading c =
-    let p = err_from_is_err_and c.from_residual-in_err-bit_word-in-Compare.result c.from_residual-in_err-bit_word-in-Compare.ensures.1 in
-    rw (p.1, p.2) (pinned (rest_one _ _ _) (after_letter _ _ Compare _ _ c.in-Compare.is (off c.in_err-bit_word-in-Compare.ensures.reading.reads)))
+    rw (same_fault _ c.from_residual-in_err-bit_word-in-Compare.ensures.1) (pinned (rest_one _ _ _) (after_letter _ _ Compare _ _ c.in-Compare.is (off c.in_err-bit_word-in-Compare.ensures.reading.reads)))
 
 pub returns-in_err-either_word-in-Compare-clause-reading : goal.returns-in_err-either_word-in-Compare-clause-reading
 returns-in_err-either_word-in-Compare-clause-reading c =
-    let p = err_from_is_err_and c.from_residual-in_err-either_word-in-Compare.result c.from_residual-in_err-either_word-in-Compare.ensures.1 in
     let b = c.in_ok-bit_word-in-Compare.ensures in
     let h = rw b.text_stays at c.in_err-either_word-in-Compare.ensures.reading.reads in
-    rw (p.1, p.2) (pinned (rest_one _ _ _) (after_letter _ _ Compare _ _ c.in-Compare.is (on b.reading.reads (off h))))
+    rw (same_fault _ c.from_residual-in_err-either_word-in-Compare.ensures.1) (pinned (rest_one _ _ _) (after_letter _ _ Compare _ _ c.in-Compare.is (on b.reading.reads (off h))))
 
 pub returns-in_err-want-clause-reading : goal.returns-in_err-want-clause-reading
 returns-in_err-want-clause-reading c =
-    let p = err_from_is_err_and c.from_residual-in_err-want.result c.from_residual-in_err-want.ensures.1 in
     let u : Unclosed c.args.cursor.now.text.now c.args.letter c.args.cursor.now.at c.match-letter.operation c.match-letter.cursor.text.now c.match-letter.cursor.at = elim c.match-letter.branch [
       | in-Write+in_ok-bit_word-in-Write w ↦ (let b = w.in_ok-bit_word-in-Write.ensures in rw (w.cursor-is, w.operation-is) (record { text_stays = b.text_stays; closes = λ r x. after_letter _ _ Write _ _ w.in-Write.is (on b.reading.reads x) }))
       | in-Read+in_ok-bit_word-in-Read w ↦ (let b = w.in_ok-bit_word-in-Read.ensures in rw (w.cursor-is, w.operation-is) (record { text_stays = b.text_stays; closes = λ r x. after_letter _ _ Read _ _ w.in-Read.is (on b.reading.reads x) }))
@@ -39,7 +33,7 @@ returns-in_err-want-clause-reading c =
       | in-Erase w ↦ (rw (w.cursor-is, w.operation-is) (record { text_stays = refl; closes = λ r x. after_letter _ _ Erase _ _ w.in-Erase.is x }))
     ] in
     let k = rw u.text_stays at c.in_err-want.ensures.reading.reads in
-    rw (p.1, p.2) (pinned (rest_one _ _ _) (u.closes _ (off k)))
+    rw (same_fault _ c.from_residual-in_err-want.ensures.1) (pinned (rest_one _ _ _) (u.closes _ (off k)))
 
 pub returns-clause-reading : goal.returns-clause-reading
 returns-clause-reading c =

@@ -1,9 +1,8 @@
-use Rattle.std.proofs.lemmas.Result.{err_from_is_err_and}
 use Rattle.std.proofs.Common.{refl, ap, ◌∙◌, arith}
 use Rattle.march.specs.Building.{order_of}
 use Rattle.words.specs.Readings.{on, off}
 use Rattle.words.specs.Listings.{shut, more, lexed, too_few, other, piece}
-use Rattle.words.proofs.Rules.{pinned}
+use Rattle.words.proofs.Rules.{pinned, same_fault}
 use Rattle.sheets.proofs.Growing.{at_element, taken, longer_order}
 use Rattle.sheets.proofs.Ones.{inside_one}
 use Rattle.sheets.proofs.element.read_element.Goals as goal
@@ -11,10 +10,9 @@ use Rattle.sheets.proofs.element.read_element.Goals.{in_default-via-in-Close+els
 
 pub returns-in_err-token-clause-reading : goal.returns-in_err-token-clause-reading
 returns-in_err-token-clause-reading c =
-    let p = err_from_is_err_and c.from_residual.result c.from_residual.ensures.1 in
     let i = c.loop-token.invariant in
     let x = rw i.text_stays at c.in_err-token.ensures.reading.reads in
-    rw (p.1, p.2) (pinned (inside_one _ _ _) (i.rest _ (lexed x)))
+    rw (same_fault _ c.from_residual.ensures.1) (pinned (inside_one _ _ _) (i.rest _ (lexed x)))
 
 pub returns-in-Close-clause-reading : goal.returns-in-Close-clause-reading
 returns-in-Close-clause-reading c =
@@ -25,12 +23,11 @@ returns-in-Close-clause-reading c =
 
 pub returns-in_err-operation-in-Open-clause-reading : goal.returns-in_err-operation-in-Open-clause-reading
 returns-in_err-operation-in-Open-clause-reading c =
-    let p = err_from_is_err_and c.from_residual-in_err-operation-in-Open.result c.from_residual-in_err-operation-in-Open.ensures.1 in
     let i = c.loop-token.invariant in
     let t = c.in_ok-token.ensures in
     let x = rw i.text_stays at t.reading.reads in
     let o = rw (t.text_stays, i.text_stays) at c.in_err-operation-in-Open.ensures.reading.reads in
-    rw (p.1, p.2) (pinned (inside_one _ _ _) (i.rest _ (piece x c.in-Open.is (off (at_element _ i.ordered c.operation_count-count.ensures.how_many_operations o)))))
+    rw (same_fault _ c.from_residual-in_err-operation-in-Open.ensures.1) (pinned (inside_one _ _ _) (i.rest _ (piece x c.in-Open.is (off (at_element _ i.ordered c.operation_count-count.ensures.how_many_operations o)))))
 
 pub returns-in_err-add-in-Open-clause-reading : goal.returns-in_err-add-in-Open-clause-reading
 returns-in_err-add-in-Open-clause-reading c =

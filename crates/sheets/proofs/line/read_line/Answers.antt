@@ -1,7 +1,6 @@
-use Rattle.std.proofs.lemmas.Result.{err_from_is_err_and}
 use Rattle.std.proofs.Common.{refl, ◌∙◌}
 use Rattle.words.specs.Readings.{on, off}
-use Rattle.words.proofs.Rules.{pinned}
+use Rattle.words.proofs.Rules.{pinned, same_fault}
 use Rattle.words.proofs.Lists.{leaves}
 use Rattle.sheets.specs.Lines.{meanings}
 use Rattle.sheets.proofs.Ones.{line_one, noted, elemental, room_asked, one_more, Unended}
@@ -10,30 +9,26 @@ use Rattle.sheets.proofs.line.read_line.Goals.{in-Note+in_ok-outermost_remark-in
 
 pub returns-in_err-one_of-clause-reading : goal.returns-in_err-one_of-clause-reading
 returns-in_err-one_of-clause-reading c =
-    let p = err_from_is_err_and c.from_residual.result c.from_residual.ensures.1 in
-    rw (p.1, p.2) (pinned (line_one _ _ _ _) (off c.in_err-one_of.ensures.reading.reads))
+    rw (same_fault _ c.from_residual.ensures.1) (pinned (line_one _ _ _ _) (off c.in_err-one_of.ensures.reading.reads))
 
 pub returns-in_err-outermost_remark-in-Note-clause-reading : goal.returns-in_err-outermost_remark-in-Note-clause-reading
 returns-in_err-outermost_remark-in-Note-clause-reading c =
-    let p = err_from_is_err_and c.from_residual-in_err-outermost_remark-in-Note.result c.from_residual-in_err-outermost_remark-in-Note.ensures.1 in
     let l = c.in_ok-one_of.ensures in
     let m = rw l.text_stays at c.in_err-outermost_remark-in-Note.ensures.reading.reads in
-    rw (p.1, p.2) (pinned (line_one _ _ _ _) (on l.reading.reads (off (noted _ _ _ _ _ _ c.in-Note.is m))))
+    rw (same_fault _ c.from_residual-in_err-outermost_remark-in-Note.ensures.1) (pinned (line_one _ _ _ _) (on l.reading.reads (off (noted _ _ _ _ _ _ c.in-Note.is m))))
 
 pub returns-in_err-check_room-in-Element-clause-reading : goal.returns-in_err-check_room-in-Element-clause-reading
 returns-in_err-check_room-in-Element-clause-reading c =
-    let p = err_from_is_err_and c.from_residual-in_err-check_room-in-Element.result c.from_residual-in_err-check_room-in-Element.ensures.1 in
     let l = c.in_ok-one_of.ensures in
     let m = room_asked c.args.elements.now _ _ _ c.len.ensures.item_count c.in_err-check_room-in-Element.ensures.reading.reads in
-    rw (p.1, p.2) (pinned (line_one _ _ _ _) (on l.reading.reads (off (elemental _ _ _ _ _ _ _ c.in-Element.is (off m)))))
+    rw (same_fault _ c.from_residual-in_err-check_room-in-Element.ensures.1) (pinned (line_one _ _ _ _) (on l.reading.reads (off (elemental _ _ _ _ _ _ _ c.in-Element.is (off m)))))
 
 pub returns-in_err-read_element-in-Element-clause-reading : goal.returns-in_err-read_element-in-Element-clause-reading
 returns-in_err-read_element-in-Element-clause-reading c =
-    let p = err_from_is_err_and c.from_residual-in_err-read_element-in-Element.result c.from_residual-in_err-read_element-in-Element.ensures.1 in
     let l = c.in_ok-one_of.ensures in
     let m = room_asked c.args.elements.now _ _ _ c.len.ensures.item_count c.in_ok-check_room-in-Element.ensures.reading.reads in
     let e = rw l.text_stays at c.in_err-read_element-in-Element.ensures.reading.reads in
-    rw (p.1, p.2) (pinned (line_one _ _ _ _) (on l.reading.reads (off (elemental _ _ _ _ _ _ _ c.in-Element.is (on m (off e))))))
+    rw (same_fault _ c.from_residual-in_err-read_element-in-Element.ensures.1) (pinned (line_one _ _ _ _) (on l.reading.reads (off (elemental _ _ _ _ _ _ _ c.in-Element.is (on m (off e))))))
 
 pub returns-clause-reading : goal.returns-clause-reading
 returns-clause-reading c =

@@ -1,20 +1,18 @@
-use Rattle.std.proofs.lemmas.Result.{err_from_is_err_and}
 use Rattle.std.proofs.Common.{◌∙◌, arith}
 use lib.ListN.{length-map}
 use Rattle.march.specs.Lists.{listed}
 use Rattle.march.specs.Tests.{meant}
 use Rattle.words.specs.Listings.{shut, more, lexed, too_few, other, piece}
-use Rattle.words.proofs.Rules.{pinned}
+use Rattle.words.proofs.Rules.{pinned, same_fault}
 use Rattle.sheets.proofs.Ones.{lines_one}
 use Rattle.sheets.proofs.line.read_lines.Goals as goal
 use Rattle.sheets.proofs.line.read_lines.Goals.{in_default-via-in-Close+else-len-gt0, in_default-via-in_default}
 
 pub returns-in_err-token-clause-reading : goal.returns-in_err-token-clause-reading
 returns-in_err-token-clause-reading c =
-    let p = err_from_is_err_and c.from_residual.result c.from_residual.ensures.1 in
     let i = c.loop-token.invariant in
     let x = rw i.text_stays at c.in_err-token.ensures.reading.reads in
-    rw (p.1, p.2) (pinned (lines_one _ _ _) (i.rest _ (lexed x)))
+    rw (same_fault _ c.from_residual.ensures.1) (pinned (lines_one _ _ _) (i.rest _ (lexed x)))
 
 pub returns-in-Close-clause-reading : goal.returns-in-Close-clause-reading
 returns-in-Close-clause-reading c =
@@ -25,12 +23,11 @@ returns-in-Close-clause-reading c =
 
 pub returns-in_err-read_line-in-Open-clause-reading : goal.returns-in_err-read_line-in-Open-clause-reading
 returns-in_err-read_line-in-Open-clause-reading c =
-    let p = err_from_is_err_and c.from_residual-in_err-read_line-in-Open.result c.from_residual-in_err-read_line-in-Open.ensures.1 in
     let i = c.loop-token.invariant in
     let t = c.in_ok-token.ensures in
     let x = rw i.text_stays at t.reading.reads in
     let l = rw (t.text_stays, i.text_stays) at c.in_err-read_line-in-Open.ensures.reading.reads in
-    rw (p.1, p.2) (pinned (lines_one _ _ _) (i.rest _ (piece x c.in-Open.is l)))
+    rw (same_fault _ c.from_residual-in_err-read_line-in-Open.ensures.1) (pinned (lines_one _ _ _) (i.rest _ (piece x c.in-Open.is l)))
 
 pub loop-token-preserved : goal.loop-token-preserved
 loop-token-preserved c =

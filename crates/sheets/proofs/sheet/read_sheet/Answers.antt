@@ -1,36 +1,31 @@
-use Rattle.std.proofs.lemmas.Result.{err_from_is_err_and}
 use Rattle.words.specs.Readings.{on, off}
-use Rattle.words.proofs.Rules.{pinned}
+use Rattle.words.proofs.Rules.{pinned, same_fault}
 use Rattle.sheets.proofs.Ones.{sheet_one, made_so}
 use Rattle.sheets.proofs.Wholes.{whole_so}
 use Rattle.sheets.proofs.sheet.read_sheet.Goals as goal
 
 pub returns-in_err-check_length-clause-reading : goal.returns-in_err-check_length-clause-reading
 returns-in_err-check_length-clause-reading c =
-    let p = err_from_is_err_and c.from_residual.result c.from_residual.ensures.1 in
-    rw (p.1, p.2) (pinned (sheet_one _) (off (off c.in_err-check_length.ensures.reading.reads)))
+    rw (same_fault _ c.from_residual.ensures.1) (pinned (sheet_one _) (off (off c.in_err-check_length.ensures.reading.reads)))
 
 pub returns-in_err-name-clause-reading : goal.returns-in_err-name-clause-reading
 returns-in_err-name-clause-reading c =
-    let p = err_from_is_err_and c.from_residual-in_err-name.result c.from_residual-in_err-name.ensures.1 in
     let k = c.in_ok-check_length.ensures.reading.reads in
     let n = c.new-cursor.ensures in
     let h = rw (n.whole_text, n.at_the_front) at c.in_err-name.ensures.reading.reads in
-    rw (p.1, p.2) (pinned (sheet_one _) (off (on k h)))
+    rw (same_fault _ c.from_residual-in_err-name.ensures.1) (pinned (sheet_one _) (off (on k h)))
 
 pub returns-in_err-elements-clause-reading : goal.returns-in_err-elements-clause-reading
 returns-in_err-elements-clause-reading c =
-    let p = err_from_is_err_and c.from_residual-in_err-elements.result c.from_residual-in_err-elements.ensures.1 in
     let k = c.in_ok-check_length.ensures.reading.reads in
     let n = c.new-cursor.ensures in
     let t = c.in_ok-name.ensures in
     let h = rw (n.whole_text, n.at_the_front) at t.reading.reads in
     let b = rw (t.text_stays, n.whole_text) at c.in_err-elements.ensures.reading.reads in
-    rw (p.1, p.2) (pinned (sheet_one _) (on (on k h) (off b)))
+    rw (same_fault _ c.from_residual-in_err-elements.ensures.1) (pinned (sheet_one _) (on (on k h) (off b)))
 
 pub returns-in_err-want-clause-reading : goal.returns-in_err-want-clause-reading
 returns-in_err-want-clause-reading c =
-    let p = err_from_is_err_and c.from_residual-in_err-want.result c.from_residual-in_err-want.ensures.1 in
     let k = c.in_ok-check_length.ensures.reading.reads in
     let n = c.new-cursor.ensures in
     let t = c.in_ok-name.ensures in
@@ -38,11 +33,10 @@ returns-in_err-want-clause-reading c =
     let l = c.in_ok-elements.ensures in
     let b = rw (t.text_stays, n.whole_text) at l.reading.reads in
     let e = rw (l.text_stays, t.text_stays, n.whole_text) at c.in_err-want.ensures.reading.reads in
-    rw (p.1, p.2) (pinned (sheet_one _) (on (on k h) (on b (off e))))
+    rw (same_fault _ c.from_residual-in_err-want.ensures.1) (pinned (sheet_one _) (on (on k h) (on b (off e))))
 
 pub returns-in_err-want-2-clause-reading : goal.returns-in_err-want-2-clause-reading
 returns-in_err-want-2-clause-reading c =
-    let p = err_from_is_err_and c.from_residual-in_err-want-2.result c.from_residual-in_err-want-2.ensures.1 in
     let k = c.in_ok-check_length.ensures.reading.reads in
     let n = c.new-cursor.ensures in
     let t = c.in_ok-name.ensures in
@@ -52,7 +46,7 @@ returns-in_err-want-2-clause-reading c =
     let f = c.in_ok-want.ensures in
     let e = rw (l.text_stays, t.text_stays, n.whole_text) at f.reading.reads in
     let g = rw (f.text_stays, l.text_stays, t.text_stays, n.whole_text) at c.in_err-want-2.ensures.reading.reads in
-    rw (p.1, p.2) (pinned (sheet_one _) (on (on k h) (on b (on e (off g)))))
+    rw (same_fault _ c.from_residual-in_err-want-2.ensures.1) (pinned (sheet_one _) (on (on k h) (on b (on e (off g)))))
 
 pub returns : goal.returns
 returns c =

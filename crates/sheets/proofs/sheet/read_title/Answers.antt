@@ -1,41 +1,36 @@
-use Rattle.std.proofs.lemmas.Result.{err_from_is_err_and}
 use Rattle.std.proofs.Common.{refl}
 use Rattle.words.specs.Readings.{on, off}
-use Rattle.words.proofs.Rules.{pinned}
+use Rattle.words.proofs.Rules.{pinned, same_fault}
 use Rattle.sheets.proofs.Ones.{title_one, name_allowed, named_so}
 use Rattle.sheets.proofs.sheet.read_title.Goals as goal
 
 pub returns-in_err-want-clause-reading : goal.returns-in_err-want-clause-reading
 returns-in_err-want-clause-reading c =
-    let p = err_from_is_err_and c.from_residual.result c.from_residual.ensures.1 in
-    rw (p.1, p.2) (pinned (title_one _ _) (off c.in_err-want.ensures.reading.reads))
+    rw (same_fault _ c.from_residual.ensures.1) (pinned (title_one _ _) (off c.in_err-want.ensures.reading.reads))
 
 pub returns-in_err-want_word-clause-reading : goal.returns-in_err-want_word-clause-reading
 returns-in_err-want_word-clause-reading c =
-    let p = err_from_is_err_and c.from_residual-in_err-want_word.result c.from_residual-in_err-want_word.ensures.1 in
     let a = c.in_ok-want.ensures in
     let x = rw a.text_stays at c.in_err-want_word.ensures.reading.reads in
-    rw (p.1, p.2) (pinned (title_one _ _) (on a.reading.reads (off x)))
+    rw (same_fault _ c.from_residual-in_err-want_word.ensures.1) (pinned (title_one _ _) (on a.reading.reads (off x)))
 
 pub returns-in_err-name-clause-reading : goal.returns-in_err-name-clause-reading
 returns-in_err-name-clause-reading c =
-    let p = err_from_is_err_and c.from_residual-in_err-name.result c.from_residual-in_err-name.ensures.1 in
     let a = c.in_ok-want.ensures in
     let b = c.in_ok-want_word.ensures in
     let y = rw a.text_stays at b.reading.reads in
     let z = rw (b.text_stays, a.text_stays) at c.in_err-name.ensures.reading.reads in
-    rw (p.1, p.2) (pinned (title_one _ _) (on a.reading.reads (on y (off z))))
+    rw (same_fault _ c.from_residual-in_err-name.ensures.1) (pinned (title_one _ _) (on a.reading.reads (on y (off z))))
 
 pub returns-in_err-want-2-clause-reading : goal.returns-in_err-want-2-clause-reading
 returns-in_err-want-2-clause-reading c =
-    let p = err_from_is_err_and c.from_residual-in_err-want-2.result c.from_residual-in_err-want-2.ensures.1 in
     let a = c.in_ok-want.ensures in
     let b = c.in_ok-want_word.ensures in
     let n = c.in_ok-name.ensures in
     let y = rw a.text_stays at b.reading.reads in
     let z = rw (b.text_stays, a.text_stays) at n.reading.reads in
     let f = rw (n.text_stays, b.text_stays, a.text_stays) at c.in_err-want-2.ensures.reading.reads in
-    rw (p.1, p.2) (pinned (title_one _ _) (on a.reading.reads (on y (on z (off f)))))
+    rw (same_fault _ c.from_residual-in_err-want-2.ensures.1) (pinned (title_one _ _) (on a.reading.reads (on y (on z (off f)))))
 
 pub returns-clause-reading : goal.returns-clause-reading
 returns-clause-reading c =

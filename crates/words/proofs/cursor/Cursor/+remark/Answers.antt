@@ -1,16 +1,14 @@
 use Rattle.std.proofs.Common.{◌∙◌, arith}
-use Rattle.std.proofs.lemmas.Result.{err_from_is_err_and}
 use Rattle.words.specs.Remarks.{shut, word, nest, lexed, other, too_deep, no_note, inner}
-use Rattle.words.proofs.Rules.{pinned}
+use Rattle.words.proofs.Rules.{pinned, same_fault}
 use Rattle.words.proofs.Nesting.{remark_one}
 use Rattle.words.proofs.cursor.Cursor.+remark.Goals as goal
 
 pub returns-in_err-token-clause-reading : goal.returns-in_err-token-clause-reading
 returns-in_err-token-clause-reading t c =
-    let p = err_from_is_err_and c.from_residual.result c.from_residual.ensures.1 in
     let i = c.loop-token.invariant in
     let x = rw i.text_stays at c.in_err-token.ensures.reading.reads in
-    rw (p.1, p.2) (pinned (remark_one _ _ _) (i.rest _ (lexed x)))
+    rw (same_fault _ c.from_residual.ensures.1) (pinned (remark_one _ _ _) (i.rest _ (lexed x)))
 
 pub returns-in-Close-clause-reading : goal.returns-in-Close-clause-reading
 returns-in-Close-clause-reading t c =
@@ -36,20 +34,18 @@ returns-then-inner-eq0-clause-reading t c =
 
 pub returns-in_err-want_word-in-Open-clause-reading : goal.returns-in_err-want_word-in-Open-clause-reading
 returns-in_err-want_word-in-Open-clause-reading t c =
-    let p = err_from_is_err_and c.from_residual-in_err-want_word-in-Open.result c.from_residual-in_err-want_word-in-Open.ensures.1 in
     let i = c.loop-token.invariant in
     let x = rw i.text_stays at c.in_ok-token.ensures.reading.reads in
     let w = rw (c.in_ok-token.ensures.text_stays, i.text_stays) at c.in_err-want_word-in-Open.ensures.reading.reads in
-    rw (p.1, p.2) (pinned (remark_one _ _ _) (i.rest _ (no_note x c.in-Open.is (omega arith) w)))
+    rw (same_fault _ c.from_residual-in_err-want_word-in-Open.ensures.1) (pinned (remark_one _ _ _) (i.rest _ (no_note x c.in-Open.is (omega arith) w)))
 
 pub returns-in_err-remark-in-Open-clause-reading : goal.returns-in_err-remark-in-Open-clause-reading
 returns-in_err-remark-in-Open-clause-reading t c =
-    let p = err_from_is_err_and c.from_residual-in_err-remark-in-Open.result c.from_residual-in_err-remark-in-Open.ensures.1 in
     let i = c.loop-token.invariant in
     let x = rw i.text_stays at c.in_ok-token.ensures.reading.reads in
     let w = rw (c.in_ok-token.ensures.text_stays, i.text_stays) at c.in_ok-want_word-in-Open.ensures.reading.reads in
     let r = rw (c.in_ok-want_word-in-Open.ensures.text_stays, c.in_ok-token.ensures.text_stays, i.text_stays) at c.in_err-remark-in-Open.ensures.reading.reads in
-    rw (p.1, p.2) (pinned (remark_one _ _ _) (i.rest _ (inner x c.in-Open.is (omega arith) w r)))
+    rw (same_fault _ c.from_residual-in_err-remark-in-Open.ensures.1) (pinned (remark_one _ _ _) (i.rest _ (inner x c.in-Open.is (omega arith) w r)))
 
 pub loop-token-preserved : goal.loop-token-preserved
 loop-token-preserved t c =

@@ -1,14 +1,12 @@
-use Rattle.std.proofs.lemmas.Result.{err_from_is_err_and}
 use Rattle.words.specs.Readings.{on, off}
 use Rattle.words.specs.Forms.{named, nameless}
-use Rattle.words.proofs.Rules.{pinned}
+use Rattle.words.proofs.Rules.{pinned, same_fault}
 use Rattle.words.proofs.Parts.{name_next_one}
 use Rattle.words.proofs.cursor.Cursor.any_word.Goals as goal
 
 pub returns-in_err-token-clause-reading : goal.returns-in_err-token-clause-reading
 returns-in_err-token-clause-reading c =
-    let p = err_from_is_err_and c.from_residual.result c.from_residual.ensures.1 in
-    rw (p.1, p.2) (pinned (name_next_one _ _) (off c.in_err-token.ensures.reading.reads))
+    rw (same_fault _ c.from_residual.ensures.1) (pinned (name_next_one _ _) (off c.in_err-token.ensures.reading.reads))
 
 pub returns-in-Word-clause-reading : goal.returns-in-Word-clause-reading
 returns-in-Word-clause-reading c = pinned (name_next_one _ _) (on c.in_ok-token.ensures.reading.reads (named c.in-Word.is))

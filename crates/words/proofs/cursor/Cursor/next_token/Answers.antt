@@ -1,6 +1,5 @@
 use Rattle.std.proofs.Common.{arith}
-use Rattle.std.proofs.lemmas.Result.{err_from_is_err_and}
-use Rattle.words.proofs.Rules.{pinned}
+use Rattle.words.proofs.Rules.{pinned, same_fault}
 use Rattle.words.proofs.Lexemes.{lexed_one, lexed_lies, token_lies}
 use Rattle.words.proofs.cursor.Cursor.next_token.Goals as goal
 
@@ -17,9 +16,8 @@ invariant_of-self c =
 
 pub returns-in_err-kind-clause-reading : goal.returns-in_err-kind-clause-reading
 returns-in_err-kind-clause-reading c =
-    let p = err_from_is_err_and c.from_residual.result c.from_residual.ensures.1 in
     let s = c.skip_spaces.ensures in
-    rw (p.1, p.2) (pinned (lexed_one _ _) (record { place = _; spaces = s.spaces_skipped; stands = (rw s.text_stays at c.in_err-kind.ensures.token_there) }))
+    rw (same_fault _ c.from_residual.ensures.1) (pinned (lexed_one _ _) (record { place = _; spaces = s.spaces_skipped; stands = (rw s.text_stays at c.in_err-kind.ensures.token_there) }))
 
 pub returns-clause-reading : goal.returns-clause-reading
 returns-clause-reading c =

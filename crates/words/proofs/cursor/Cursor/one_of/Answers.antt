@@ -1,12 +1,10 @@
-use Rattle.std.proofs.lemmas.Result.{err_from_is_err_and}
-use Rattle.words.proofs.Rules.{pinned}
+use Rattle.words.proofs.Rules.{pinned, same_fault}
 use Rattle.words.proofs.Parts.{one_of_next_one, chosen, no_word}
 use Rattle.words.proofs.cursor.Cursor.one_of.Goals as goal
 
 pub returns-in_err-word-clause-reading : goal.returns-in_err-word-clause-reading
 returns-in_err-word-clause-reading g c =
-    let p = err_from_is_err_and c.from_residual.result c.from_residual.ensures.1 in
-    rw (p.1, p.2) (pinned (one_of_next_one _ g.met.T.Spelled.differ _ _) (no_word _ _ _ _ c.in_err-word.ensures.reading.reads))
+    rw (same_fault _ c.from_residual.ensures.1) (pinned (one_of_next_one _ g.met.T.Spelled.differ _ _) (no_word _ _ _ _ c.in_err-word.ensures.reading.reads))
 
 pub returns-clause-reading : goal.returns-clause-reading
 returns-clause-reading g c =

@@ -1,15 +1,14 @@
+use Rattle.words.proofs.Rules.{same_fault}
 use Rattle.std.proofs.Common.{◌≡◌, length, Ok, sym, ◌∙◌, subst, add-zero, arith}
-use Rattle.std.proofs.lemmas.Result.{err_from_is_err_and}
 use Rattle.words.specs.declared.token.Kind.TheVariants.{End}
 use Rattle.words.specs.Lexing.{TokenAt, token, ends, opens, closes, feeds, others}
 use Rattle.words.proofs.cursor.Cursor.token_here.Goals as goal
 
 pub returns-in_err-word_length-in-Some : goal.returns-in_err-word_length-in-Some
 returns-in_err-word_length-in-Some c =
-    let p = err_from_is_err_and c.from_residual.result c.from_residual.ensures.1 in
     let l = c.in-Some.ensures.lookup in
     let b = l.3.1 0 in
-    rw (p.1, p.2) record { token_there = others l.3.0 (λ e. omega (arith, c.in-Some.field-0-test)) (λ e. omega (arith, c.in-Some.field-0-test)) (λ e. omega (arith, c.in-Some.field-0-test)) c.in_err-word_length-in-Some.ensures.word_there }
+    rw (same_fault _ c.from_residual.ensures.1) record { token_there = others l.3.0 (λ e. omega (arith, c.in-Some.field-0-test)) (λ e. omega (arith, c.in-Some.field-0-test)) (λ e. omega (arith, c.in-Some.field-0-test)) c.in_err-word_length-in-Some.ensures.word_there }
 
 pub returns-in-None : goal.returns-in-None
 returns-in-None c =

@@ -1,14 +1,12 @@
-use Rattle.std.proofs.lemmas.Result.{err_from_is_err_and}
 use Rattle.words.specs.Readings.{on, off}
 use Rattle.words.specs.Forms.{spelt, misspelt}
-use Rattle.words.proofs.Rules.{pinned}
+use Rattle.words.proofs.Rules.{pinned, same_fault}
 use Rattle.words.proofs.Parts.{word_next_one, says, says_not}
 use Rattle.words.proofs.cursor.Cursor.want_word.Goals as goal
 
 pub returns-in_err-token-clause-reading : goal.returns-in_err-token-clause-reading
 returns-in_err-token-clause-reading c =
-    let p = err_from_is_err_and c.from_residual.result c.from_residual.ensures.1 in
-    rw (p.1, p.2) (pinned (word_next_one _ _ _) (off c.in_err-token.ensures.reading.reads))
+    rw (same_fault _ c.from_residual.ensures.1) (pinned (word_next_one _ _ _) (off c.in_err-token.ensures.reading.reads))
 
 pub returns-then-spells-clause-reading : goal.returns-then-spells-clause-reading
 returns-then-spells-clause-reading c =
