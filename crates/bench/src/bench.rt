@@ -2,7 +2,7 @@
 ghost use Rattle.std.specs.Prelude.{◌≡◌};
 ghost use Rattle.bench.specs.Books.{new_books};
 
-use crate::books::{Books, Finding};
+use crate::books::Books;
 use cam::array::CamArray;
 
 // What a bench lets the tally and the starts come to.
@@ -22,15 +22,7 @@ impl<C: CamArray> Bench<C> {
     {
         Bench {
             array,
-            books: Books {
-                hand: 0,
-                starts: 0,
-                closes: 0,
-                charts: 0,
-                quits: 0,
-                run: None,
-                finding: Finding::Open,
-            },
+            books: Books::default(),
         }
     }
 

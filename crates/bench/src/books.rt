@@ -6,8 +6,9 @@ use mlt1::state::RunState;
 
 // What is known of the array: nothing yet; what the last run that was closed found, with the number of its misses; or how
 // many blemished cells the last chart shows.
-#[derive(Clone, Copy, Debug, PartialEq, Eq)]
+#[derive(Clone, Copy, Debug, Default, PartialEq, Eq)]
 pub enum Finding {
+    #[default]
     Open,
     Sound,
     Faulty(u32),
@@ -16,7 +17,7 @@ pub enum Finding {
 
 // The counts of a bench (operations by hand, starts, runs closed, charts, and the operations of runs that were quit),
 // the run in hand, if any, and the finding.
-#[derive(Clone, Copy)]
+#[derive(Clone, Copy, Default)]
 pub struct Books {
     pub hand: u64,
     pub starts: u64,

@@ -14,6 +14,7 @@ use cam::operation::Operation;
 // A byte for each cell of the largest array, 256 words of 64 bits.
 const CHART_BYTES: usize = 16_384;
 
+// By the function that a caller has for each operation, so that the rules are those of these functions.
 fn perform_by_hand<C: CamArray>(bench: &mut Bench<C>, operation: Operation)
     ensures call_performed { Performs (C.build bench.old.array) 0 (ByHand operation) (desk (C.state bench.old.array) bench.old.books) (desk (C.state bench.new.array) bench.new.books) }
     ensures build_stays { C.build bench.new.array ≡ C.build bench.old.array }

@@ -1,4 +1,4 @@
-// The finding of a bench, and findings as numbers.
+// The finding of a bench, and findings as the two numbers that answers to other programs give.
 ghost use Rattle.std.specs.Prelude.{◌≡◌};
 ghost use Rattle.bench.specs.Books.{finding_number, finding_count};
 
@@ -33,8 +33,7 @@ impl Finding {
         ensures misses_or_cells { result ≡ finding_count self }
     {
         match self {
-            Finding::Open => 0,
-            Finding::Sound => 0,
+            Finding::Open | Finding::Sound => 0,
             Finding::Faulty(misses) => misses,
             Finding::Charted(cells) => cells,
         }
