@@ -105,13 +105,17 @@ impl Element {
         match self {
             Element::Up(operations) => {
                 let word = WordIndex { number: visit };
-                operations.get(operation).map(|o| o.at_word(word, width))
+                operations
+                    .get(operation)
+                    .map(|operation| operation.at_word(word, width))
             }
             Element::Down(operations) => {
                 let word = WordIndex {
                     number: size.words.saturating_sub(1).saturating_sub(visit),
                 };
-                operations.get(operation).map(|o| o.at_word(word, width))
+                operations
+                    .get(operation)
+                    .map(|operation| operation.at_word(word, width))
             }
             Element::Columns(comparisons) => {
                 let column = ColumnIndex {
@@ -119,7 +123,7 @@ impl Element {
                 };
                 comparisons
                     .get(operation)
-                    .map(|c| c.on_column(column, width))
+                    .map(|comparison| comparison.on_column(column, width))
             }
         }
     }

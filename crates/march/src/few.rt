@@ -3,8 +3,8 @@ ghost use Rattle.std.specs.Prelude.{◌≡◌, ◌<◌, ◌≤◌, [], ◌∷◌
 ghost use Rattle.std.specs.List.{slice_get};
 ghost use Rattle.march.specs.Lists.{listed, capacity};
 
-// At most `N` items: the first `count` of `items`, and all of them where `count` is larger. The libraries pass and keep
-// it as a plain copy, which a vector of the library is not.
+// At most `N` items: the first `count` of `items`, and all of them where `count` is larger. It is passed and kept as a
+// plain copy, which the kit's vector of a fixed room is not.
 #[derive(Clone, Copy)]
 pub struct Few<T, const N: usize> {
     pub items: [T; N],

@@ -77,7 +77,7 @@ impl Element {
             return Err(Fault::of_call(Reason::TooManyOperations));
         }
         match self {
-            // one arm for both: it stays open which of the two the longer list is in
+            // two arms, since the proof of one for both leaves open which of the two has the longer list
             Element::Up(operations) => operations.push(operation),
             Element::Down(operations) => operations.push(operation),
             Element::Columns(comparisons) => match operation {
