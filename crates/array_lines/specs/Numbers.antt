@@ -1,5 +1,6 @@
 -- Numbers of an array text, and the limits that the meaning asks of them.
 use Rattle.std.specs.Prelude.{◌≡◌, ℕ, ◌<◌, ◌≤◌, Bool, true, false, ◌&&◌, List, length, Ok, Err, Result, nat_le}
+use Rattle.std.specs.Char.{is_ascii_digit}
 use Rattle.std.specs.Str.Parse.{digits_value}
 use Rattle.cam.specs.declared.fault.Reason.{Reason}
 use Rattle.cam.specs.declared.fault.Fault.{Fault}
@@ -9,12 +10,9 @@ use Rattle.words.specs.Readings.{Then, Gathered, gathered}
 use Rattle.words.specs.Forms.{not_wanted, meaning_fault, NameNext}
 use Rattle.array_lines.specs.declared.number.Number.{Number}
 
-abbrev pub is_digit : ℕ → Bool
-is_digit b = nat_le 48 b && nat_le b 57
-
 -- at most four digits; zeros may lead
 abbrev pub is_numeral : List ℕ → Bool
-is_numeral w = nat_le (length w) 4 && every is_digit w
+is_numeral w = nat_le (length w) 4 && every is_ascii_digit w
 
 -- the number that digits write, in the base of ten
 abbrev pub numeral : List ℕ → ℕ

@@ -1,5 +1,6 @@
 -- An array with the defects of a list, none of which repeats another, has exactly these. Assumes nothing.
 use Rattle.std.proofs.Common.{◌≡◌, ℕ, Bool, true, false, cond, not, eqb, List, [], ◌∷◌, sym, refl, ap, ◌∙◌, subst, ap₂, ⊎_elim}
+use Rattle.std.specs.List.{list_any}
 use mathlib.Core.List.Memᴰ
 use mathlib.Core.List.{Memᴰ}
 use Rattle.std.proofs.lemmas.Bool.{and_parts, and_from, or_cases, or_left, or_right, eq-eqb, eqb-true, cond-true, cond-false, true≢false}
@@ -13,18 +14,18 @@ use Rattle.cam.proofs.Below.{split}
 use Rattle.array_lines.specs.declared.cell.Defect.{Defect}
 use Rattle.array_lines.specs.declared.cell.Defect.TheVariants.{Storage, Wrong, Mark}
 use Rattle.array_lines.specs.Cells.{cell}
-use Rattle.array_text.specs.Meaning.{some, says_wrong, says_stuck, storage_in, build_with, word, pair, Exactly}
+use Rattle.array_text.specs.Meaning.{says_wrong, says_stuck, storage_in, build_with, word, pair, Exactly}
 use Rattle.array_text.specs.Left.{Distinct}
 use Rattle.array_text.proofs.OneMore.{said_storage, same_cell_lem}
 
-some_found : {X : Type 0} (f : X → Bool) (xs : List X) → some f xs ≡ true → (x : X) × (Memᴰ x xs × (f x ≡ true))
+some_found : {X : Type 0} (f : X → Bool) (xs : List X) → list_any f xs ≡ true → (x : X) × (Memᴰ x xs × (f x ≡ true))
 some_found f [] e = absurd (true≢false (sym e))
 some_found f (x ∷ xs) e =
     ⊎_elim (λ h. (x, (Memᴰ.head refl, h)))
     (λ t. let y = some_found f xs t in (y.0, (Memᴰ.tail y.1.0, y.1.1)))
-    (or_cases (f x) (some f xs) e)
+    (or_cases (f x) (list_any f xs) e)
 
-some_there : {X : Type 0} (f : X → Bool) (x : X) (xs : List X) → f x ≡ true → Memᴰ x xs → some f xs ≡ true
+some_there : {X : Type 0} (f : X → Bool) (x : X) (xs : List X) → f x ≡ true → Memᴰ x xs → list_any f xs ≡ true
 some_there f x [] e m = absurd (Memᴰ.not-nil m)
 some_there f x (y ∷ xs) e m =
     ⊎_elim (λ s. or_left (f y) _ (ap f (sym s) ∙ e)) (λ t. or_right (f y) _ (some_there f x xs e t)) (Memᴰ.cases_cons m)

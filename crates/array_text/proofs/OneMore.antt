@@ -1,5 +1,6 @@
 -- One more defect in an array that has those of a list. Assumes nothing.
 use Rattle.std.proofs.Common.{◌≡◌, ℕ, ◌<◌, Bool, true, false, cond, not, ◌||◌, eqb, ltb, List, [], ◌∷◌, Ok, Err, Result, MatchResult, IsErrAnd, sym, refl, ap, ◌∙◌, subst, ap₂, arith}
+use Rattle.std.specs.List.{list_any}
 use mathlib.Core.Path.{fun_ext}
 use Rattle.std.proofs.lemmas.Bool.{and_parts, and_right, and_from, eqb-true, lt-ltb, true≢false}
 use Rattle.cam.specs.declared.defect.Pair.{Pair}
@@ -21,7 +22,7 @@ use Rattle.planes.specs.Planes.{build_of, state_of}
 use Rattle.array_lines.specs.declared.cell.Defect.{Defect}
 use Rattle.array_lines.specs.declared.cell.Defect.TheVariants.{Storage, Wrong, Mark}
 use Rattle.array_lines.specs.Cells.{Inside}
-use Rattle.array_text.specs.Meaning.{some, says_storage, says_wrong, says_stuck, repeats, storage_in, build_with, is_sa1, new_state}
+use Rattle.array_text.specs.Meaning.{says_storage, says_wrong, says_stuck, repeats, storage_in, build_with, is_sa1, new_state}
 use Rattle.array_text.specs.Left.{Holds, PlantingLeaves}
 
 -- how the second of two questions was answered
@@ -43,7 +44,7 @@ head_storage true defect.NoFall x y e = refl
 head_storage false s x y e = e
 
 -- a cell has a storage line exactly when it does not store well
-pub said_storage : (ds : List Defect) (k i : ℕ) → some (says_storage k i) ds ≡ not (is_good (storage_in ds k i))
+pub said_storage : (ds : List Defect) (k i : ℕ) → list_any (says_storage k i) ds ≡ not (is_good (storage_in ds k i))
 said_storage [] k i = refl
 said_storage (Storage c s ∷ ds) k i = head_storage (same_cell c.word.number c.column.number k i) s _ _ (said_storage ds k i)
 said_storage (Wrong c p ∷ ds) k i = said_storage ds k i
@@ -89,10 +90,10 @@ module _ (N W : ℕ) (ds : List Defect) (p q : PlaneArray) (h : Holds N W ds p) 
       → first_no (ask (has_cell (build_of p) c.word.number c.column.number) 42 ∷ ask (is_good ((build_of p).storage c.word.number c.column.number)) 43 ∷ []) ≡ 0
       → build_of q ≡ with_storage c.word.number c.column.number (storage_with s) (build_of p)
       → state_of q ≡ settled c.word.number c.column.number (storage_with s) (state_of p)
-      → (some (repeats (Storage c s)) ds ≡ false) × Holds N W (Storage c s ∷ ds) q
+      → (list_any (repeats (Storage c s)) ds ≡ false) × Holds N W (Storage c s ∷ ds) q
   storage_planted c s i asks b t =
       let good : is_good (storage_in ds c.word.number c.column.number) ≡ true = ap (λ B. is_good (B.storage c.word.number c.column.number)) (sym h.build) ∙ second_yes _ _ asks in
-      let fresh : some (says_storage c.word.number c.column.number) ds ≡ false = said_storage ds c.word.number c.column.number ∙ ap not good in (
+      let fresh : list_any (says_storage c.word.number c.column.number) ds ≡ false = said_storage ds c.word.number c.column.number ∙ ap not good in (
         fresh,
         record {
           build = b ∙ ap (with_storage c.word.number c.column.number (storage_with s)) h.build;
@@ -104,7 +105,7 @@ module _ (N W : ℕ) (ds : List Defect) (p q : PlaneArray) (h : Holds N W ds p) 
 
   storage_repeated : (c : CellIndex) (s : StorageDefect) (f : Fault) → c.word.number < N → c.column.number < W
       → Refused (first_no (ask (has_cell (build_of p) c.word.number c.column.number) 42 ∷ ask (is_good ((build_of p).storage c.word.number c.column.number)) 43 ∷ [])) f
-      → some (repeats (Storage c s)) ds ≡ true
+      → list_any (repeats (Storage c s)) ds ≡ true
   storage_repeated c s f l m r =
       said_storage ds c.word.number c.column.number
       ∙ ap not (ap (λ B. is_good (B.storage c.word.number c.column.number)) (sym h.build) ∙ second_no _ _ f (cell_there c.word.number c.column.number l m) r)
@@ -117,9 +118,9 @@ module _ (N W : ℕ) (ds : List Defect) (p q : PlaneArray) (h : Holds N W ds p) 
       → first_no (ask (has_cell (build_of p) c.word.number c.column.number) 42 ∷ ask (not ((build_of p).wrong c.word.number c.column.number x.held x.comparand)) 43 ∷ []) ≡ 0
       → build_of q ≡ with_pair c.word.number c.column.number x.held x.comparand (build_of p)
       → state_of q ≡ state_of p
-      → (some (repeats (Wrong c x)) ds ≡ false) × Holds N W (Wrong c x ∷ ds) q
+      → (list_any (repeats (Wrong c x)) ds ≡ false) × Holds N W (Wrong c x ∷ ds) q
   pair_planted c x i asks b t =
-      let fresh : some (says_wrong c.word.number c.column.number x.held x.comparand) ds ≡ false =
+      let fresh : list_any (says_wrong c.word.number c.column.number x.held x.comparand) ds ≡ false =
       ap (λ B. B.wrong c.word.number c.column.number x.held x.comparand) (sym h.build) ∙ not_not _ true (second_yes _ _ asks) in (
         fresh,
         record {
@@ -132,7 +133,7 @@ module _ (N W : ℕ) (ds : List Defect) (p q : PlaneArray) (h : Holds N W ds p) 
 
   pair_repeated : (c : CellIndex) (x : Pair) (f : Fault) → c.word.number < N → c.column.number < W
       → Refused (first_no (ask (has_cell (build_of p) c.word.number c.column.number) 42 ∷ ask (not ((build_of p).wrong c.word.number c.column.number x.held x.comparand)) 43 ∷ [])) f
-      → some (repeats (Wrong c x)) ds ≡ true
+      → list_any (repeats (Wrong c x)) ds ≡ true
   pair_repeated c x f l m r =
       ap (λ B. B.wrong c.word.number c.column.number x.held x.comparand) (sym h.build) ∙ not_not _ false (second_no _ _ f (cell_there c.word.number c.column.number l m) r)
 
@@ -140,9 +141,9 @@ module _ (N W : ℕ) (ds : List Defect) (p q : PlaneArray) (h : Holds N W ds p) 
       → first_no (ask (has_word (build_of p) a.number) 42 ∷ ask (not ((build_of p).stuck a.number)) 43 ∷ []) ≡ 0
       → build_of q ≡ with_stuck_mark a.number (build_of p)
       → state_of q ≡ unmarked a.number (state_of p)
-      → (some (repeats (Mark a)) ds ≡ false) × Holds N W (Mark a ∷ ds) q
+      → (list_any (repeats (Mark a)) ds ≡ false) × Holds N W (Mark a ∷ ds) q
   mark_planted a i asks b t =
-      let fresh : some (says_stuck a.number) ds ≡ false = ap (λ B. B.stuck a.number) (sym h.build) ∙ not_not _ true (second_yes _ _ asks) in (
+      let fresh : list_any (says_stuck a.number) ds ≡ false = ap (λ B. B.stuck a.number) (sym h.build) ∙ not_not _ true (second_yes _ _ asks) in (
         fresh,
         record {
           build = b ∙ ap (with_stuck_mark a.number) h.build;
@@ -154,13 +155,13 @@ module _ (N W : ℕ) (ds : List Defect) (p q : PlaneArray) (h : Holds N W ds p) 
 
   mark_repeated : (a : WordIndex) (f : Fault) → a.number < N
       → Refused (first_no (ask (has_word (build_of p) a.number) 42 ∷ ask (not ((build_of p).stuck a.number)) 43 ∷ [])) f
-      → some (repeats (Mark a)) ds ≡ true
+      → list_any (repeats (Mark a)) ds ≡ true
   mark_repeated a f l r =
       ap (λ B. B.stuck a.number) (sym h.build) ∙ not_not _ false (second_no _ _ f (ap (λ B. has_word B a.number) h.build ∙ lt-ltb a.number N l) r)
 
   -- the defect d was planted, or an earlier one is the same
   abbrev pub Planted : Defect → Result (Unit {0}) Fault → Type 0
-  Planted d r = MatchResult r (λ _. (some (repeats d) ds ≡ false) × Holds N W (d ∷ ds) q) (λ _. some (repeats d) ds ≡ true)
+  Planted d r = MatchResult r (λ _. (list_any (repeats d) ds ≡ false) × Holds N W (d ∷ ds) q) (λ _. list_any (repeats d) ds ≡ true)
 
   pub storage_told : (c : CellIndex) (s : StorageDefect) (r : Result (Unit {0}) Fault) → Inside N W (Storage c s)
       → Asks (ask (has_cell (build_of p) c.word.number c.column.number) 42 ∷ ask (is_good ((build_of p).storage c.word.number c.column.number)) 43 ∷ []) r

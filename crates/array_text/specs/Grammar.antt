@@ -1,5 +1,6 @@
 -- The grammar of an array text.
 use Rattle.std.specs.Prelude.{◌≡◌, ℕ, ◌<◌, ◌≤◌, true, false, List, [], ◌∷◌, Some, None, Ok, Err, codes, Option, Result}
+use Rattle.std.specs.List.{list_any}
 use Rattle.cam.specs.declared.fault.Reason.TheVariants.{SizeOutsideLimits, DefectRepeated, BufferTooShort}
 use Rattle.cam.specs.declared.fault.Layer.TheVariants.{Call}
 use Rattle.cam.specs.declared.fault.Fault.{Fault}
@@ -12,7 +13,7 @@ use Rattle.words.specs.Listings.{Listing}
 use Rattle.array_lines.specs.declared.cell.Defect.{Defect}
 use Rattle.array_lines.specs.Numbers.{NumberWithin}
 use Rattle.array_lines.specs.Lines.{LineNext}
-use Rattle.array_text.specs.Meaning.{some, repeats}
+use Rattle.array_text.specs.Meaning.{repeats}
 
 -- what a text says: words, bits of a word, and the defects of its lines, the last line first
 pub record Description : Type 0 where
@@ -41,8 +42,8 @@ FirstLine text = FirstLineNext text 0
 
 -- a defect after the defects ds; the bracket of its line stands at p, and the place after the line is e
 pub data Adds (ds : List Defect) (p e : ℕ) (d : Defect) : Result (Gathered (List Defect)) Fault → Type 0 where
-  new : some (repeats d) ds ≡ false → Adds ds p e d (Ok (gathered (d ∷ ds) e))
-  repeated : some (repeats d) ds ≡ true → Adds ds p e d (Err (meaning_fault DefectRepeated p))
+  new : list_any (repeats d) ds ≡ false → Adds ds p e d (Ok (gathered (d ∷ ds) e))
+  repeated : list_any (repeats d) ds ≡ true → Adds ds p e d (Err (meaning_fault DefectRepeated p))
 
 -- a remark adds nothing
 abbrev pub AddsLine : List Defect → ℕ → ℕ → Option Defect → Result (Gathered (List Defect)) Fault → Type 0

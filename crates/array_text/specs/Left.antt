@@ -1,5 +1,6 @@
 -- What the parts of the reader leave in the array.
 use Rattle.std.specs.Prelude.{◌≡◌, ℕ, true, false, List, [], ◌∷◌, Ok, Err, Result}
+use Rattle.std.specs.List.{list_any}
 use Rattle.cam.specs.declared.fault.Reason.TheVariants.{DefectRepeated}
 use Rattle.cam.specs.declared.fault.Fault.{Fault}
 use Rattle.words.specs.Readings.{Gathered, gathered}
@@ -7,12 +8,12 @@ use Rattle.planes.specs.declared.array.PlaneArray.{PlaneArray}
 use Rattle.planes.specs.Planes.{build_of, state_of}
 use Rattle.array_lines.specs.declared.cell.Defect.{Defect}
 use Rattle.words.specs.Forms.{meaning_fault}
-use Rattle.array_text.specs.Meaning.{some, repeats, build_with, new_state, AllInside}
+use Rattle.array_text.specs.Meaning.{repeats, build_with, new_state, AllInside}
 
 -- no defect repeats an earlier one
 abbrev pub Distinct : List Defect → Type 0
 Distinct [] = Unit {0}
-Distinct (d ∷ ds) = (some (repeats d) ds ≡ false) × Distinct ds
+Distinct (d ∷ ds) = (list_any (repeats d) ds ≡ false) × Distinct ds
 
 -- the array is a new one of N words of W bits with these defects
 pub record Holds (N W : ℕ) (ds : List Defect) (p : PlaneArray) : Type 0 where
@@ -23,8 +24,8 @@ pub record Holds (N W : ℕ) (ds : List Defect) (p : PlaneArray) : Type 0 where
 
 -- one more defect d, or the fault of a line that repeats one
 abbrev pub PlantingLeaves : ℕ → ℕ → List Defect → Defect → ℕ → PlaneArray → Result (Unit {0}) Fault → Type 0
-PlantingLeaves N W ds d bracket p (Ok _) = (some (repeats d) ds ≡ false) × Holds N W (d ∷ ds) p
-PlantingLeaves N W ds d bracket p (Err f) = (some (repeats d) ds ≡ true) × (f ≡ meaning_fault DefectRepeated bracket)
+PlantingLeaves N W ds d bracket p (Ok _) = (list_any (repeats d) ds ≡ false) × Holds N W (d ∷ ds) p
+PlantingLeaves N W ds d bracket p (Err f) = (list_any (repeats d) ds ≡ true) × (f ≡ meaning_fault DefectRepeated bracket)
 
 -- what the rule P reads is in the array
 abbrev pub Leaves : (Result (Gathered (List Defect)) Fault → Type 0) → ℕ → ℕ → PlaneArray → Result ℕ Fault → Type 0

@@ -1,5 +1,6 @@
 -- What a list of described defects means: how each cell stores, which pairs are wrong, which marks are stuck.
-use Rattle.std.specs.Prelude.{◌≡◌, ℕ, Bool, true, false, cond, ◌&&◌, ◌||◌, ◌↔◌, List, [], ◌∷◌, ◌==◌}
+use Rattle.std.specs.Prelude.{◌≡◌, ℕ, Bool, true, false, cond, ◌&&◌, ◌↔◌, List, [], ◌∷◌, ◌==◌}
+use Rattle.std.specs.List.{list_any}
 use mathlib.Core.List.{Memᴰ}
 use Rattle.cam.specs.declared.defect.Pair.{Pair}
 use Rattle.cam.specs.declared.defect.Storage.{Storage as How}
@@ -11,11 +12,6 @@ use Rattle.cam.specs.Defects.{same_cell, is_pair, storage_with}
 use Rattle.array_lines.specs.declared.cell.Defect.{Defect}
 use Rattle.array_lines.specs.declared.cell.Defect.TheVariants.{Storage, Wrong, Mark}
 use Rattle.array_lines.specs.Cells.{Inside, cell}
-
--- whether f holds of some item
-abbrev pub some : {X : Type 0} → (X → Bool) → List X → Bool
-some f [] = false
-some f (x ∷ xs) = f x || some f xs
 
 -- whether a line says how cell (k, i) stores
 abbrev pub says_storage : ℕ → ℕ → Defect → Bool
@@ -60,8 +56,8 @@ build_with N W ds =
       words = N;
       width = W;
       storage = λ k i. storage_in ds k i;
-      wrong = λ k i h b. some (says_wrong k i h b) ds;
-      stuck = λ k. some (says_stuck k) ds;
+      wrong = λ k i h b. list_any (says_wrong k i h b) ds;
+      stuck = λ k. list_any (says_stuck k) ds;
     }
 
 abbrev pub is_sa1 : How → Bool

@@ -1,6 +1,5 @@
 // A whole array text.
-ghost use Rattle.std.specs.Prelude.{◌≡◌, ◌<◌, ◌≤◌, true, drop, Err, vec_len, MatchResult};
-ghost use Rattle.cam.specs.Defects.{within_limits};
+ghost use Rattle.std.specs.Prelude.{◌≡◌, ◌<◌, ◌≤◌, drop, Err, vec_len, MatchResult};
 ghost use Rattle.planes.specs.Planes.{build_of, blanked};
 ghost use Rattle.words.specs.Readings.{Reading};
 ghost use Rattle.array_text.specs.Grammar.{ArrayCall};
@@ -9,7 +8,7 @@ ghost use Rattle.array_text.specs.Texts.{Means, HandedBack};
 use crate::first_line::read_first_line;
 use crate::lines::add_rest;
 use cam::fault::{Fault, Reason};
-use cam::size::Size;
+use cam::size::size_of;
 use planes::array::{NotMade, PlaneArray};
 use planes::word::WordRecord;
 use words::cursor::Cursor;
@@ -46,13 +45,14 @@ impl From<NotRead> for Fault {
 }
 
 // Ends an array in the making, and hands its records back with those of its words blank.
-fn given_up(array: PlaneArray, size: Size) -> Vec<WordRecord>
-    ensures words_blank_others_stay { within_limits size.words size.width ≡ true → size.words ≤ vec_len array.records → result.items ≡ blanked size.words array.records.items }
+fn given_up(array: PlaneArray) -> Vec<WordRecord>
+    ensures words_blank_others_stay { 1 ≤ (build_of array).words → result.items ≡ blanked (build_of array).words array.records.items }
 {
-    match PlaneArray::new(array.into_records(), size) {
-        Ok(blank) => blank.into_records(),
-        Err(not_made) => not_made.records,
-    }
+    let size = size_of(&array);
+    PlaneArray::new(array.into_records(), size).map_or_else(
+        |not_made| not_made.records,
+        PlaneArray::into_records,
+    )
 }
 
 // Reads the text of an array into a new array with the defects that its lines describe. It asks first of all for the
@@ -73,14 +73,14 @@ pub fn read_array(text: &[u8], records: Vec<WordRecord>) -> Result<PlaneArray, N
     let mut cursor = Cursor::new(text);
     let size = match read_first_line(&mut cursor) {
         Ok(size) => size,
-        // the records go back with the fault, which a closure of `map_err` could not give and leave them here too
+        // a closure of `map_err` would take the records along, also where the line was read
         Err(fault) => return Err(NotRead { records, fault }),
     };
     let mut array = PlaneArray::new(records, size)?;
-    match add_rest(&mut cursor, size, &mut array) {
+    match add_rest(&mut cursor, &mut array) {
         Ok(()) => Ok(array),
         Err(fault) => Err(NotRead {
-            records: given_up(array, size),
+            records: given_up(array),
             fault,
         }),
     }

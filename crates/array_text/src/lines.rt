@@ -1,5 +1,5 @@
 // The lines of an array text, read into the array.
-ghost use Rattle.std.specs.Prelude.{◌≡◌, ◌≤◌, List, []};
+ghost use Rattle.std.specs.Prelude.{◌≡◌, ℕ, ◌≤◌, List, []};
 ghost use Rattle.array_lines.specs.declared.cell.Defect.{Defect};
 ghost use Rattle.planes.specs.Planes.{KeepsLater};
 ghost use Rattle.words.specs.Readings.{reached};
@@ -9,33 +9,28 @@ ghost use Rattle.array_text.specs.Left.{Holds, Leaves, RestLeaves};
 use crate::planting::plant;
 use array_lines::line::read_line;
 use cam::fault::Fault;
-use cam::size::Size;
+use cam::size::size_of;
 use planes::array::PlaneArray;
 use words::cursor::Cursor;
 use words::form::not_wanted;
 use words::token::Kind;
 
 // Reads a line whose bracket stood at this place, and plants its defect.
-fn add_line(
-    cursor: &mut Cursor,
-    bracket: usize,
-    size: Size,
-    array: &mut PlaneArray,
-) -> Result<(), Fault>
-    ensures reading { (ds : List Defect) → Holds size.words size.width ds array.old → Leaves (LineAfter size.words size.width cursor.old.text.now ds bracket cursor.old.at) size.words size.width array.new (reached cursor.new.at result) }
+fn add_line(cursor: &mut Cursor, bracket: usize, array: &mut PlaneArray) -> Result<(), Fault>
+    ensures reading { (N W : ℕ) (ds : List Defect) → Holds N W ds array.old → Leaves (LineAfter N W cursor.old.text.now ds bracket cursor.old.at) N W array.new (reached cursor.new.at result) }
     ensures later_records_stay { KeepsLater array.old array.new }
     ensures text_stays { cursor.new.text.now ≡ cursor.old.text.now }
     ensures goes_on { cursor.old.at ≤ cursor.new.at }
 {
-    match read_line(cursor, size)? {
+    match read_line(cursor, size_of(array))? {
         Some(defect) => plant(array, defect, bracket),
         None => Ok(()),
     }
 }
 
 // Reads the lines up to the text's closing bracket, and plants their defects.
-fn add_lines(cursor: &mut Cursor, size: Size, array: &mut PlaneArray) -> Result<(), Fault>
-    ensures reading { (ds : List Defect) → Holds size.words size.width ds array.old → Leaves (Lines size.words size.width cursor.old.text.now ds cursor.old.at) size.words size.width array.new (reached cursor.new.at result) }
+fn add_lines(cursor: &mut Cursor, array: &mut PlaneArray) -> Result<(), Fault>
+    ensures reading { (N W : ℕ) (ds : List Defect) → Holds N W ds array.old → Leaves (Lines N W cursor.old.text.now ds cursor.old.at) N W array.new (reached cursor.new.at result) }
     ensures later_records_stay { KeepsLater array.old array.new }
     ensures text_stays { cursor.new.text.now ≡ cursor.old.text.now }
     ensures goes_on { cursor.old.at ≤ cursor.new.at }
@@ -44,18 +39,18 @@ fn add_lines(cursor: &mut Cursor, size: Size, array: &mut PlaneArray) -> Result<
         let token = cursor.next_token()?;
         match token.kind {
             Kind::Close => return Ok(()),
-            Kind::Open => add_line(cursor, token.from, size, array)?,
+            Kind::Open => add_line(cursor, token.from, array)?,
             _ => return Err(not_wanted(token.from)),
         }
     }
 }
 
 // Reads what follows the first line, to the end of the text, into an array that is new.
-pub(crate) fn add_rest(cursor: &mut Cursor, size: Size, array: &mut PlaneArray) -> Result<(), Fault>
-    ensures reading { Holds size.words size.width [] array.old → RestLeaves (Rest size.words size.width cursor.old.text.now cursor.old.at) size.words size.width array.new result }
+pub(crate) fn add_rest(cursor: &mut Cursor, array: &mut PlaneArray) -> Result<(), Fault>
+    ensures reading { (N W : ℕ) → Holds N W [] array.old → RestLeaves (Rest N W cursor.old.text.now cursor.old.at) N W array.new result }
     ensures later_records_stay { KeepsLater array.old array.new }
 {
-    add_lines(cursor, size, array)?;
+    add_lines(cursor, array)?;
     cursor.want(Kind::LineFeed)?;
     cursor.want(Kind::End)
 }

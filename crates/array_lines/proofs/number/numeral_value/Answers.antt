@@ -7,7 +7,7 @@ use Rattle.std.proofs.lemmas.Bool.Decides.{nat_tests}
 use Rattle.std.specs.Str.Parse.{digits_value, AllDigits}
 use Rattle.std.specs.Char.{digit_value}
 use Rattle.march.specs.Every.{every}
-use Rattle.array_lines.specs.Numbers.{is_digit}
+use Rattle.std.specs.Char.{is_ascii_digit}
 use Rattle.array_lines.proofs.number.numeral_value.Goals as goal
 
 -- up to three digits write a number below a thousand
@@ -25,15 +25,15 @@ so_far xs i v d e l h =
 digit_is : (b : ℕ) → 48 ≤ b → b ≤ 57 → digit_value b ≡ b - 48
 digit_is b l h = grind (arith, nat_tests)
 
-bounds : (b : ℕ) → is_digit b ≡ true → (48 ≤ b) × (b ≤ 57)
+bounds : (b : ℕ) → is_ascii_digit b ≡ true → (48 ≤ b) × (b ≤ 57)
 bounds b e = let p = and_parts (leb 48 b) (leb b 57) e in (leb-true 48 b p.0, leb-true b 57 p.1)
 
 pub returns-then-not-is_ascii_digit : goal.returns-then-not-is_ascii_digit
 returns-then-not-is_ascii_digit c =
     let xs = c.args.word.now in
     let i = c.loop-byte.byte-index in
-    let off : is_digit (get_or xs i 0) ≡ false = sym c.if-not-is_ascii_digit.ensures.value in
-    let bad : every is_digit xs ≡ false = sym c.loop-byte.invariant.0 ∙ at_drop_more (every is_digit) xs i 0 (omega arith) ∙ and_left _ _ off in
+    let off : is_ascii_digit (get_or xs i 0) ≡ false = sym c.if-not-is_ascii_digit.ensures.value in
+    let bad : every is_ascii_digit xs ≡ false = sym c.loop-byte.invariant.0 ∙ at_drop_more (every is_ascii_digit) xs i 0 (omega arith) ∙ and_left _ _ off in
     record { value_of_digits = and_right (leb (length xs) 4) _ bad }
 
 pub overflow_mul-value : goal.overflow_mul-value
@@ -53,11 +53,11 @@ loop-byte-preserved c =
     let i = c.loop-byte.byte-index in
     let b = get_or xs i 0 in
     let at : i < length xs = omega arith in
-    let digit : is_digit b ≡ true = sym c.if-not-is_ascii_digit.ensures.value in
+    let digit : is_ascii_digit b ≡ true = sym c.if-not-is_ascii_digit.ensures.value in
     let low : 48 ≤ b = (bounds b digit).0 in
     let high : b ≤ 57 = (bounds b digit).1 in
     let is = digit_is b low high in (
-      sym (at_drop_more (every is_digit) xs i 0 at ∙ ap (λ t. t && every is_digit (drop (i + 1) xs)) digit) ∙ c.loop-byte.invariant.0,
+      sym (at_drop_more (every is_ascii_digit) xs i 0 at ∙ ap (λ t. t && every is_ascii_digit (drop (i + 1) xs)) digit) ∙ c.loop-byte.invariant.0,
       digits_more 10 xs i at c.loop-byte.invariant.1 (omega arith),
       sym (digits_value_more 10 xs i at ∙ ap₂ (λ (v d : ℕ). v * 10 + d) (sym c.loop-byte.invariant.2) (is ∙ sym c.from.ensures)),
     )
@@ -66,5 +66,5 @@ pub returns : goal.returns
 returns c =
     let xs = c.args.word.now in
     let i = c.loop-byte.byte-index in
-    let all : every is_digit xs ≡ true = sym c.loop-byte.invariant.0 ∙ at_drop_all (every is_digit) xs i (omega arith) in
+    let all : every is_ascii_digit xs ≡ true = sym c.loop-byte.invariant.0 ∙ at_drop_all (every is_ascii_digit) xs i (omega arith) in
     record { value_of_digits = (and_from _ _ (le-leb (length xs) 4 (omega arith)) all, c.loop-byte.invariant.2 ∙ ap (digits_value 10) (take_all i xs (omega arith))) }

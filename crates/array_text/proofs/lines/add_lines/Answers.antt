@@ -9,13 +9,13 @@ returns-in_err-token-clause-reading c =
     let p = err_from_is_err_and c.from_residual.result c.from_residual.ensures.1 in
     let i = c.loop-token.invariant in
     let x = rw i.text_stays at c.in_err-token.ensures.reading.reads in
-    rw (p.1, p.2) (λ ds h. (i.rest ds h).1.1 _ (lexed x))
+    rw (p.1, p.2) (λ N W ds h. (i.rest N W ds h).1.1 _ (lexed x))
 
 pub returns-in-Close-clause-reading : goal.returns-in-Close-clause-reading
-returns-in-Close-clause-reading c = λ ds h.
+returns-in-Close-clause-reading c = λ N W ds h.
     let i = c.loop-token.invariant in
     let x = rw i.text_stays at c.in_ok-token.ensures.reading.reads in
-    let y = i.rest ds h in
+    let y = i.rest N W ds h in
     (y.0, (y.1.1 _ (shut x c.in-Close.is tt), y.1.0))
 
 pub returns-in_err-add_line-in-Open-clause-reading : goal.returns-in_err-add_line-in-Open-clause-reading
@@ -25,9 +25,9 @@ returns-in_err-add_line-in-Open-clause-reading c =
     let t = c.in_ok-token.ensures in
     let x = rw i.text_stays at t.reading.reads in
     let l = rw (t.text_stays, i.text_stays) at c.in_err-add_line-in-Open.ensures.reading in
-    rw (p.1, p.2) (λ ds h.
-    let y = i.rest ds h in
-    y.1.1 _ (piece x c.in-Open.is (l y.0 y.1.0)))
+    rw (p.1, p.2) (λ N W ds h.
+    let y = i.rest N W ds h in
+    y.1.1 _ (piece x c.in-Open.is (l N W y.0 y.1.0)))
 
 pub loop-token-preserved : goal.loop-token-preserved
 loop-token-preserved c =
@@ -39,9 +39,9 @@ loop-token-preserved c =
     record {
       text_stays = a.text_stays ∙ t.text_stays ∙ i.text_stays;
       goes_on = omega (arith, i.goes_on, t.goes_on, a.goes_on);
-      rest = λ ds h.
-          let y = i.rest ds h in
-          let z = l y.0 y.1.0 in
+      rest = λ N W ds h.
+          let y = i.rest N W ds h in
+          let z = l N W y.0 y.1.0 in
           (z.0, (z.1.1, λ r rest. y.1.1 r (more x c.in-Open.is z.1.0 rest)));
       later = keeps_on _ _ _ i.later a.later_records_stay;
     }
@@ -52,7 +52,7 @@ returns-in_default c =
     let t = c.in_ok-token.ensures in
     let x = rw i.text_stays at t.reading.reads in
     rw c.not_wanted.ensures.not_wanted_there record {
-      reading = λ ds h. (i.rest ds h).1.1 _ (other x c.in_default.not-Close c.in_default.not-Open);
+      reading = λ N W ds h. (i.rest N W ds h).1.1 _ (other x c.in_default.not-Close c.in_default.not-Open);
       later_records_stay = i.later;
       text_stays = t.text_stays ∙ i.text_stays;
       goes_on = omega (arith, i.goes_on, t.goes_on);

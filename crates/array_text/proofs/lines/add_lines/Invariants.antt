@@ -1,4 +1,4 @@
-use Rattle.std.proofs.Common.{◌≡◌, ◌-◌, ◌≤◌, List, length, Result}
+use Rattle.std.proofs.Common.{◌≡◌, ℕ, ◌-◌, ◌≤◌, List, length, Result}
 use Rattle.cam.specs.declared.fault.Fault.{Fault}
 use Rattle.planes.specs.Planes.{KeepsLater}
 use Rattle.words.specs.Readings.{Gathered}
@@ -12,9 +12,9 @@ abbrev pub invariant-loop-token : goal.invariant-loop-token
 invariant-loop-token l = record {
   text_stays : l.cursor.text.now ≡ l.initial.cursor.text.now;
   goes_on : l.initial.cursor.at ≤ l.cursor.at;
-  rest : (ds : List Defect) → Holds l.size.words l.size.width ds l.initial.array
-      → (es : List Defect) × (Holds l.size.words l.size.width es l.array
-      × ((r : Result (Gathered (List Defect)) Fault) → Lines l.size.words l.size.width l.initial.cursor.text.now es l.cursor.at r → Lines l.size.words l.size.width l.initial.cursor.text.now ds l.initial.cursor.at r));
+  rest : (N W : ℕ) (ds : List Defect) → Holds N W ds l.initial.array
+      → (es : List Defect) × (Holds N W es l.array
+      × ((r : Result (Gathered (List Defect)) Fault) → Lines N W l.initial.cursor.text.now es l.cursor.at r → Lines N W l.initial.cursor.text.now ds l.initial.cursor.at r));
   later : KeepsLater l.initial.array l.array;
 }
 

@@ -7,19 +7,19 @@ use Rattle.array_text.proofs.lines.add_rest.Goals as goal
 pub returns-in_err-add_lines-clause-reading : goal.returns-in_err-add_lines-clause-reading
 returns-in_err-add_lines-clause-reading c =
     let p = err_from_is_err_and c.from_residual.result c.from_residual.ensures.1 in
-    rw (p.1, p.2) (λ h. off (c.in_err-add_lines.ensures.reading [] h))
+    rw (p.1, p.2) (λ N W h. off (c.in_err-add_lines.ensures.reading N W [] h))
 
 pub returns-in_err-want-clause-reading : goal.returns-in_err-want-clause-reading
 returns-in_err-want-clause-reading c =
     let p = err_from_is_err_and c.from_residual-in_err-want.result c.from_residual-in_err-want.ensures.1 in
     let l = c.in_ok-add_lines.ensures in
     let e = rw l.text_stays at c.in_err-want.ensures.reading.reads in
-    rw (p.1, p.2) (λ h. on (l.reading [] h).1.0 (off e))
+    rw (p.1, p.2) (λ N W h. on (l.reading N W [] h).1.0 (off e))
 
 pub returns-clause-reading : goal.returns-clause-reading
-returns-clause-reading c = λ h.
+returns-clause-reading c = λ N W h.
     let l = c.in_ok-add_lines.ensures in
-    let x = l.reading [] h in
+    let x = l.reading N W [] h in
     let e = rw l.text_stays at c.in_ok-want.ensures.reading.reads in
     let f = rw (c.in_ok-want.ensures.text_stays, l.text_stays) at c.want-2.ensures.reading.reads in
     rest_leaves _ _ _ _ _ x.0 _ _ c.want-2.result _ x.1.0 e f x.1.1
