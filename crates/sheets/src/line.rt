@@ -65,7 +65,8 @@ fn read_line(
     cursor.want(Kind::LineFeed)
 }
 
-// Reads the lines of a sheet, up to the sheet's closing bracket.
+// Reads the lines of a sheet, up to the sheet's closing bracket. A loop of its own, like an element's: a shared one would
+// take what a line adds as a closure, and what the lines mean could no longer stand in its invariant.
 pub(crate) fn read_lines(cursor: &mut Cursor) -> Result<Few<Element, 16>, Fault>
     ensures reading { Reading (Lines cursor.old.text.now [] cursor.old.at) (come_to cursor.new.at (result_map meanings result)) }
     ensures text_stays { cursor.new.text.now ≡ cursor.old.text.now }
