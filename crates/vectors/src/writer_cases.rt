@@ -52,10 +52,11 @@ impl From<InsideElement> for Sheet {
     }
 }
 
-// A call with a state, refused with it or granted with the next one, as a call with a sheet.
-fn with_sheets<S: Into<Sheet>, T: Into<Sheet>>(
-    called: Result<T, NotWritten<S>>,
-) -> Result<Sheet, NotWritten<Sheet>> {
+// How a call went, and where the sheet stands after it.
+type Called = Result<Sheet, NotWritten<Sheet>>;
+
+// The same of a call with a state, which is refused with it or granted with the next one.
+fn with_sheets<S: Into<Sheet>, T: Into<Sheet>>(called: Result<T, NotWritten<S>>) -> Called {
     match called {
         Ok(next) => Ok(next.into()),
         Err(NotWritten { state, fault }) => Err(NotWritten {
@@ -65,11 +66,7 @@ fn with_sheets<S: Into<Sheet>, T: Into<Sheet>>(
     }
 }
 
-fn call_between(
-    state: BetweenElements,
-    piece: Piece<'_>,
-    buffer: &mut [u8],
-) -> Option<Result<Sheet, NotWritten<Sheet>>> {
+fn call_between(state: BetweenElements, piece: Piece<'_>, buffer: &mut [u8]) -> Option<Called> {
     match piece {
         Piece::Open(order) => Some(with_sheets(state.open(order, buffer))),
         Piece::End => Some(with_sheets(state.end(buffer).map(|_| Sheet::Ended))),
@@ -80,11 +77,7 @@ fn call_between(
     }
 }
 
-fn call_inside(
-    state: InsideElement,
-    piece: Piece<'_>,
-    buffer: &mut [u8],
-) -> Option<Result<Sheet, NotWritten<Sheet>>> {
+fn call_inside(state: InsideElement, piece: Piece<'_>, buffer: &mut [u8]) -> Option<Called> {
     match piece {
         Piece::Write(operation) => Some(with_sheets(state.write(operation, buffer))),
         Piece::Close => Some(with_sheets(state.close(buffer))),
@@ -97,7 +90,7 @@ fn call_inside(
 
 impl Sheet {
     // Makes a call, if it is one that the types of the writer allow. The cases have no other.
-    fn call(self, piece: Piece<'_>, buffer: &mut [u8]) -> Option<Result<Sheet, NotWritten<Sheet>>> {
+    fn call(self, piece: Piece<'_>, buffer: &mut [u8]) -> Option<Called> {
         match self {
             Sheet::New => {
                 let Piece::Begin(name) = piece else {
@@ -150,11 +143,7 @@ fn piece_of(line: &[u8]) -> anyhow::Result<Piece<'_>> {
 }
 
 // Prints the answer of a call, how many bytes are written so far or the refusal, and gives where the sheet stands.
-fn put_written(
-    out: &mut Output,
-    called: Result<Sheet, NotWritten<Sheet>>,
-    buffer: &[u8],
-) -> anyhow::Result<Sheet> {
+fn put_written(out: &mut Output, called: Called, buffer: &[u8]) -> anyhow::Result<Sheet> {
     match called {
         Ok(sheet) => {
             let length = Scanner::new(buffer).before(FILL).len();
