@@ -26,6 +26,7 @@ impl CampaignRecords {
         let size = self.size;
         let mut own = self;
         let mut count = 0u32;
+        // loops, since each place hands the records on to the next
         for word in 0..size.words {
             for column in 0..fault.places_in_word(size.width) {
                 let cell = CellIndex {
@@ -61,6 +62,7 @@ impl CampaignRecords {
         ensures size_stays { result.size ≡ self.size }
     {
         let mut own = self;
+        // rows by their numbers: what an iterator has written to them would not be known afterwards
         for (number, fault) in faults_of_rows().iter().enumerate() {
             let (row, back) = own.tell(test, *fault);
             rows[number] = row;

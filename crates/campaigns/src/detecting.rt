@@ -18,6 +18,7 @@ pub fn detects<C: CamArray>(test: &Test, array: &mut C) -> bool
 {
     let size = size_of(array);
     let mut missed = false;
+    // loops, left by the label: a chain whose closure operates on the array would tell nothing of the array afterwards
     'elements: for element in test.elements() {
         for visit in 0..element.visits(size) {
             for step in element.steps(size, visit) {

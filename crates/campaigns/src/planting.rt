@@ -35,8 +35,7 @@ fn plant_pairs(array: &mut PlaneArray, cell: CellIndex, wrong: WrongSet)
     ensures pairs_planted { build_of array.new ≡ with_pairs cell.word.number cell.column.number (in_set wrong) (build_of array.old) }
     ensures state_stays { state_of array.new ≡ state_of array.old }
 {
-    let pairs = PAIRS;
-    for pair in pairs {
+    for pair in PAIRS {
         if wrong.contains(pair) {
             let _ = array.plant_pair(cell, pair);
         }

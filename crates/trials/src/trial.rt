@@ -20,6 +20,7 @@ use march::test::Test;
 // buffer, in their order: 1 for a miss and 0 otherwise. Bytes past the last outcome are left as they are. It asks for a
 // byte for every outcome (71); a trial that is refused does nothing. The tally stops at its cap, so no trial is refused
 // for it.
+#[tactic(auto, using(crate::proofs::Outcomes::outcome_laws))]
 pub fn trial<C: CamArray>(
     test: &Test,
     array: &mut C,
