@@ -1,7 +1,7 @@
 -- A word's bytes in a buffer, one more at a time, and the words' rows one after the other.
 use Rattle.std.proofs.Common.{◌≡◌, ℕ, ◌+◌, ◌*◌, ◌-◌, ◌<◌, ◌≤◌, min, ltb, List, [], ◌∷◌, map, length, get_or, sym, refl, ap, ◌∙◌, subst, inl, inr, ⊎_elim, suc-mul, mul_comm, mul-le-mul, add-one, arith}
 use borrow.Rule.Slice.PartMut.{put_mid}
-use Rattle.std.specs.List.{range_with_len}
+use Rattle.std.specs.List.{slice_index, range_with_len}
 use Rattle.std.proofs.lemmas.Grind.{common_steps}
 use Rattle.std.proofs.lemmas.List.FromFn.{length-map-range_with_len, get_or-map-range_with_len}
 use Rattle.std.proofs.lemmas.Bool.{cases_eq, cases_lt}
@@ -14,11 +14,18 @@ use Rattle.cam.specs.Defects.{blemished}
 use Rattle.march.specs.Tests.{word}
 use Rattle.chart.specs.declared.answers.Answers.{Answers}
 use Rattle.chart.specs.Bytes.{byte_of, chart_byte}
-use Rattle.chart.specs.Chart.{Row, count_below, sum_below, Charted, word_operations, chart_operations, blemishes, Answered}
+use Rattle.chart.specs.Chart.{count_below, sum_below, Charted, word_operations, chart_operations, blemishes, Answered}
 use Rattle.chart.proofs.Words.{Dark, one_word, byte_tells}
 use Rattle.cam.proofs.Operating.{after_up, after_joined}
 use Rattle.chart.proofs.Counts.{count_same, count_few}
 use Rattle.chart.proofs.Marks.{visit_dark}
+
+-- the bytes of a word of W columns stand from a place of a buffer on, as far as they fit; the others are as they were
+pub record Row (r : Answers) (start W : ℕ) (old new : List ℕ) : Type 0 where
+  pub cells : (j : ℕ) → j < W → start + j < length old → slice_index new (start + j) ≡ byte_of r j
+  pub earlier : (i : ℕ) → i < start → slice_index new i ≡ slice_index old i
+  pub later : (i : ℕ) → start + W ≤ i → slice_index new i ≡ slice_index old i
+  pub size : length new ≡ length old
 
 -- the elements of a list, k of which were written over from place s on
 module _ (s k : ℕ) (xs ys : List ℕ) (inside : s + k ≤ length xs) (long : length ys ≡ k) where

@@ -9,7 +9,7 @@ use Rattle.cam.specs.declared.operation.Operation.TheVariants.{Write, Read, Comp
 use Rattle.cam.specs.Machine.{upward}
 use Rattle.march.specs.Tests.{word}
 use Rattle.chart.specs.declared.answers.Answers.{Answers}
-use Rattle.chart.specs.Bytes.{chart_byte, byte_of}
+use Rattle.chart.specs.Bytes.{chart_byte}
 
 -- a compare of W equal bits on each single column, upward
 abbrev pub on_each_column : ℕ → Bool → List Operation
@@ -76,13 +76,6 @@ sum_below (suc n) f = sum_below n f + f n
 -- how many cells of an array are blemished
 abbrev pub blemishes : Build → ℕ
 blemishes B = sum_below B.words (λ a. count_below B.width (blemished B a))
-
--- the bytes of a word of W columns stand from a place of a buffer on, as far as they fit; the others are as they were
-pub record Row (r : Answers) (start W : ℕ) (old new : List ℕ) : Type 0 where
-  pub cells : (j : ℕ) → j < W → start + j < length old → slice_index new (start + j) ≡ byte_of r j
-  pub earlier : (i : ℕ) → i < start → slice_index new i ≡ slice_index old i
-  pub later : (i : ℕ) → start + W ≤ i → slice_index new i ≡ slice_index old i
-  pub size : length new ≡ length old
 
 -- The chart stands at the front of a buffer as far as it fits: byte a * W + j is that of cell (a, j), and the bytes
 -- after the last cell's are as they were.

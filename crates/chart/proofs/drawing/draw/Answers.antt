@@ -5,11 +5,11 @@ use Rattle.chart.specs.Bytes.{byte_of}
 use Rattle.std.proofs.lemmas.List.Edits.{length-between}
 use Rattle.cam.specs.Model.{tally_cap}
 use Rattle.cam.proofs.Operating.{tally_rises}
-use Rattle.chart.specs.Chart.{Row, chart_operations}
+use Rattle.chart.specs.Chart.{chart_operations}
 use Rattle.chart.proofs.Lengths.{chart_length_lem}
 use Rattle.chart.proofs.Words.{byte_tells}
 use Rattle.chart.proofs.Marks.{erasing_dark}
-use Rattle.chart.proofs.Rows.{row_put, drawn_none, drawn_more, drawn_few, drawn_all}
+use Rattle.chart.proofs.Rows.{Row, row_put, drawn_none, drawn_more, drawn_few, drawn_all}
 use Rattle.chart.proofs.drawing.draw.Goals as goal
 
 pub loop-number-init : goal.loop-number-init
