@@ -1,3 +1,3 @@
 pub mod Places
-pub mod Below
+pub mod Chains
 pub mod Meanings

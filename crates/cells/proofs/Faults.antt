@@ -1,7 +1,9 @@
 -- The wrong set of a transistor cell, by going through all cases.
 use Rattle.std.proofs.Common.{◌≡◌, Bool, true, false, not, ◌&&◌, sym, refl, ap, ◌∙◌, None, Some}
 use mathlib.Core.Bool.{beq}
-use Rattle.std.proofs.lemmas.Bool.{true≢false, and_parts, and_from, not-true, or_parts, or_from}
+use Rattle.std.proofs.lemmas.Bool.{true≢false, and_parts, and_from, not-true, or_parts}
+use Rattle.std.specs.Option.{is_none}
+use Rattle.std.specs.Cmp.{booleans_Decides}
 use Rattle.cam.specs.Defects.{in_set, some_wrong}
 use Rattle.cells.specs.declared.transistor.TransistorFault.TheVariants.{Open, On}
 use Rattle.cells.specs.declared.transistor.TransistorCell.{TransistorCell}
@@ -24,12 +26,6 @@ wrong_pairs_lem c p q r s e f g i false true = f ∙ other_false _
 wrong_pairs_lem c p q r s e f g i true true = ap not (g ∙ sym (same_true _))
 wrong_pairs_lem c p q r s e f g i true false = i ∙ other_false _
 
-equal : (x y : Bool) → beq x y ≡ true → x ≡ y
-equal true true e = refl
-equal true false e = sym e
-equal false true e = e
-equal false false e = refl
-
 -- a test of every transistor
 abbrev each : (Transistor → Bool) → Bool
 each f = f None && (f (Some Open) && f (Some On))
@@ -43,35 +39,27 @@ abbrev cell : Transistor → Transistor → Transistor → Transistor → Transi
 cell p q r s =
     record { held = false; latch = None; leg_a = record { storage = p; search = q }; leg_b = record { storage = r; search = s } }
 
-abbrev good : Transistor → Bool
-good None = true
-good (Some Open) = false
-good (Some On) = false
-
-is_good_lem : (t : Transistor) → good t ≡ true → t ≡ None
-is_good_lem None e = refl
-is_good_lem (Some Open) e = absurd (true≢false (sym e))
-is_good_lem (Some On) e = absurd (true≢false (sym e))
+none_lem : (t : Transistor) → is_none t ≡ true → t ≡ None
+none_lem None e = refl
+none_lem (Some f) e = absurd (true≢false (sym e))
 
 -- no pair is wrong exactly in the one of the 81 cells whose transistors are all good
 abbrev told : Transistor → Transistor → Transistor → Transistor → Bool
-told p q r s = beq (not (some_wrong (wrong_by (cell p q r s)))) (good p && (good q && (good r && good s)))
+told p q r s = beq (not (some_wrong (wrong_by (cell p q r s)))) (is_none p && (is_none q && (is_none r && is_none s)))
 
 all_told : each (λ p. each (λ q. each (λ r. each (told p q r)))) ≡ true
 all_told = refl
 
-tells : (c : TransistorCell) → not (some_wrong (wrong_by c)) ≡ (good c.leg_a.storage && (good c.leg_a.search && (good c.leg_b.storage && good c.leg_b.search)))
+tells : (c : TransistorCell) → not (some_wrong (wrong_by c)) ≡ (is_none c.leg_a.storage && (is_none c.leg_a.search && (is_none c.leg_b.storage && is_none c.leg_b.search)))
 tells c =
-    equal _ _
+    (booleans_Decides _ _).0
     (each_one (told c.leg_a.storage c.leg_a.search c.leg_b.storage)
     (each_one (λ r. each (told c.leg_a.storage c.leg_a.search r))
     (each_one (λ q. each (λ r. each (told c.leg_a.storage q r)))
     (each_one (λ p. each (λ q. each (λ r. each (told p q r)))) all_told c.leg_a.storage) c.leg_a.search) c.leg_b.storage) c.leg_b.search)
 
 none_wrong : (f : Bool → Bool → Bool) → ((h b : Bool) → f h b ≡ false) → some_wrong f ≡ false
-none_wrong f e =
-    or_from (f false false) _ (e false false)
-    (or_from (f false true) _ (e false true) (or_from (f true true) _ (e true true) (e true false)))
+none_wrong f e = simp e
 
 each_right : (f : Bool → Bool → Bool) → some_wrong f ≡ false → (h b : Bool) → f h b ≡ false
 each_right f e h b =
@@ -89,18 +77,18 @@ each_right f e h b =
 pub empty_exactly_when_good : EmptyExactlyWhenGood
 empty_exactly_when_good c = (
   λ e.
-      let p = and_parts (good c.leg_a.storage) _ (sym (tells c) ∙ ap not (none_wrong (wrong_by c) e)) in
-      let q = and_parts (good c.leg_a.search) _ p.1 in
-      let r = and_parts (good c.leg_b.storage) _ q.1 in
+      let p = and_parts (is_none c.leg_a.storage) _ (sym (tells c) ∙ ap not (none_wrong (wrong_by c) e)) in
+      let q = and_parts (is_none c.leg_a.search) _ p.1 in
+      let r = and_parts (is_none c.leg_b.storage) _ q.1 in
       record {
-        storage_a = is_good_lem _ p.0;
-        search_a = is_good_lem _ q.0;
-        storage_b = is_good_lem _ r.0;
-        search_b = is_good_lem _ r.1;
+        storage_a = none_lem _ p.0;
+        search_a = none_lem _ q.0;
+        storage_b = none_lem _ r.0;
+        search_b = none_lem _ r.1;
       },
   λ g.
       each_right (wrong_by c)
       (not-true _
       (tells c
-      ∙ and_from _ _ (ap good g.storage_a) (and_from _ _ (ap good g.search_a) (and_from _ _ (ap good g.storage_b) (ap good g.search_b))))),
+      ∙ and_from _ _ (ap is_none g.storage_a) (and_from _ _ (ap is_none g.search_a) (and_from _ _ (ap is_none g.storage_b) (ap is_none g.search_b))))),
 )

@@ -85,6 +85,7 @@ impl TransistorCell {
     {
         let stuck = Some(fault);
         let mut cell = self;
+        // Each arm writes its own: what is written through a `&mut` that a match picks, the prover does not know.
         match position {
             Position::StorageA => cell.leg_a.storage = stuck,
             Position::SearchA => cell.leg_a.search = stuck,

@@ -4,7 +4,7 @@ use Rattle.std.proofs.lemmas.Iterator.Consumers.{YieldsList-from_enumerate}
 use Rattle.std.proofs.lemmas.Iterator.Search.{all_from_yields_List}
 use Rattle.cam.specs.Bits.{bit}
 use Rattle.cells.specs.Meaning.{answers_to}
-use Rattle.cell_field.proofs.Below.{all_columns}
+use Rattle.cell_field.proofs.Chains.{all_columns}
 use Rattle.cell_field.proofs.rows.row_matches.Goals as goal
 
 pub returns : goal.returns

@@ -10,7 +10,7 @@ use Rattle.cell_field.specs.declared.mark.Mark.{Mark}
 use Rattle.cell_field.specs.declared.mark.Mark.TheVariants.{Clear}
 use Rattle.cell_field.specs.Mark.{is_set}
 use Rattle.cell_field.specs.Row.{row_matches}
-use Rattle.cell_field.proofs.Below.{pairs_yielded, row_beside, any_rows}
+use Rattle.cell_field.proofs.Chains.{pairs_yielded, row_beside, any_rows}
 use Rattle.cell_field.proofs.Meanings.{some_match}
 use Rattle.cell_field.proofs.field.CellField.hits.Goals as goal
 
