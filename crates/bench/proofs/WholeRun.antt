@@ -6,7 +6,7 @@ use Rattle.cam.specs.declared.fault.Fault.{Fault}
 use Rattle.cam.specs.Defects.{Sound}
 use Rattle.cam.specs.Model.{Build, State, WellFormed, tally_cap}
 use Rattle.cam.specs.Refusals.{Question, Asks, AsksIn, first_no}
-use Rattle.cam.proofs.Asking.{refused_not_0}
+use Rattle.cam.proofs.Asking.{refused_not_0, both_yes}
 use Rattle.march.specs.Tests.{schedule, after, misses}
 use Rattle.march.proofs.Sweeps.{after_tally}
 use Rattle.mlt1.specs.declared.state.RunState.{RunState}
@@ -22,11 +22,11 @@ use Rattle.bench.specs.Judging.{judge_questions}
 use Rattle.bench.proofs.Ruling.{found_cases}
 
 -- a call whose questions are all answered yes is granted
-pub granted_in : {X E : Type 0} (fault : E → Fault) (qs : List Question) (r : Result X E) → first_no qs ≡ 0 → AsksIn fault qs r → (x : X) × (r ≡ Ok x)
+granted_in : {X E : Type 0} (fault : E → Fault) (qs : List Question) (r : Result X E) → first_no qs ≡ 0 → AsksIn fault qs r → (x : X) × (r ≡ Ok x)
 granted_in fault qs (Ok x) z a = (x, refl)
 granted_in fault qs (Err e) z a = absurd (refused_not_0 (first_no qs) (fault e) a z)
 
-pub at_ok : {X E : Type 0} (P : X → Type 0) (Q : E → Type 0) (r : Result X E) (x : X) → r ≡ Ok x → MatchResult r P Q → P x
+at_ok : {X E : Type 0} (P : X → Type 0) (Q : E → Type 0) (r : Result X E) (x : X) → r ≡ Ok x → MatchResult r P Q → P x
 at_ok {X = X} {E = E} P Q r x e m = let M : Result X E → Type 0 = λ r. MatchResult r P Q in subst M e m
 
 -- what was found is sound exactly without a defect
@@ -77,8 +77,7 @@ all_done B S b C E R T s c number k r formed e t s-is n-is k-is asks most went o
       stays = f ∙ e;
       array = run.1;
       missed = run.0;
-      asked = cond-true _ _ 55 (and_from (is_some c.run) (eqb number c.starts) running (eq-eqb number c.starts starts))
-          ∙ cond-true _ 0 56 (eq-eqb (run_in_hand c).place (run_length E) there);
+      asked = both_yes _ _ 55 56 (and_from (is_some c.run) (eqb number c.starts) running (eq-eqb number c.starts starts)) (eq-eqb (run_in_hand c).place (run_length E) there);
       closes = ap closed others ∙ ap (λ (s : Books). closed (with_run (run_in_hand c) s)) s-is;
     }
 
@@ -93,7 +92,7 @@ pub run_granted : (B : Build) (S : State) (b : Books) (bytes : ℕ) → b ≡ ne
 run_granted B S b bytes new asked =
     let both = judge_asked B S bytes asked in
     ap (λ (b : Books). first_no (start_questions B S b)) new
-    ∙ cond-true _ 0 54 (and_from (leb (S.tally + run_length B) limit) true (le-leb (S.tally + run_length B) limit (omega (arith, both.1))) refl)
+    ∙ both_yes true _ 51 54 refl (and_from (leb (S.tally + run_length B) limit) true (le-leb (S.tally + run_length B) limit (omega (arith, both.1))) refl)
 
 -- after a whole run there is still room for a chart that there was room for before
 pub chart_granted : (B : Build) (S : State) (C : Build) (T : State) (b : Books) (bytes : ℕ)

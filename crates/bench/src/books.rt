@@ -1,6 +1,4 @@
 // What a bench keeps beside its array.
-ghost use Rattle.std.specs.Prelude.{◌≡◌};
-
 use cam::fault::Fault;
 use mlt1::state::RunState;
 
@@ -33,26 +31,8 @@ pub struct Ticket {
     pub(crate) number: u64,
 }
 
-impl Ticket {
-    // Lets a ticket go; only the bench itself may.
-    pub(crate) fn let_go(self) {
-        let Ticket { number: _ } = self;
-    }
-}
-
 // A run was not closed: its ticket back, and why. No `From` makes the refusal alone of it, since the ticket would be lost.
 pub struct NotClosed {
     pub ticket: Ticket,
     pub fault: Fault,
-}
-
-impl NotClosed {
-    // The refusal alone; only the bench itself may let the ticket go.
-    pub(crate) fn let_go(self) -> Fault
-        ensures refusal_alone { result ≡ self.fault }
-    {
-        let NotClosed { ticket, fault } = self;
-        ticket.let_go();
-        fault
-    }
 }

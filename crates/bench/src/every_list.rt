@@ -57,17 +57,18 @@ fn perform<C: CamArray>(bench: &mut Bench<C>, call: Call)
     match call {
         Call::ByHand(operation) => perform_by_hand(bench, operation),
         Call::Start => {
-            let _ = bench.start().map(Ticket::let_go);
+            let _ = bench.start().map(|Ticket { number }| number);
         }
         Call::Step { ticket, most } => {
             let ticket = Ticket { number: ticket };
             let _ = bench.step(&ticket, most);
-            ticket.let_go();
+            let Ticket { number: _ } = ticket;
         }
         Call::Close { ticket } => {
-            let _ = bench
-                .close(Ticket { number: ticket })
-                .map_err(NotClosed::let_go);
+            let _ = bench.close(Ticket { number: ticket }).map_err(|NotClosed { ticket, fault }| {
+                let Ticket { number: _ } = ticket;
+                fault
+            });
         }
         Call::Quit { ticket } => {
             let _ = bench.quit(Ticket { number: ticket });

@@ -29,7 +29,13 @@ impl<C: CamArray> Bench<C> {
         let operations = operation_count(size_of(&self.array));
         let ticket = self.start()?;
         let _ = self.step(&ticket, operations);
-        // the close of a whole run is never refused
-        self.close(ticket).map_err(NotClosed::let_go)
+        // No `map_err`: of a bench that a closure quits the run of, the proof would know nothing.
+        match self.close(ticket) {
+            Ok(finding) => Ok(finding),
+            Err(NotClosed { ticket, fault }) => {
+                let _ = self.quit(ticket);
+                Err(fault)
+            }
+        }
     }
 }
