@@ -98,6 +98,7 @@ impl Test {
         if count == 0 {
             return Err(Fault::of_call(Reason::NothingInside));
         }
+        // by its place, since for a loan of the last element the proof leaves open what the table holds after it
         self.elements.items[count as usize - 1].add(operation)
     }
 
