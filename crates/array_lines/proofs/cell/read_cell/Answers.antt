@@ -1,21 +1,18 @@
 use Rattle.std.proofs.Common.{arith}
-use Rattle.std.proofs.lemmas.Result.{err_from_is_err_and}
 use Rattle.words.specs.Readings.{on, off}
-use Rattle.words.proofs.Rules.{pinned}
+use Rattle.words.proofs.Rules.{pinned, same_fault}
 use Rattle.array_lines.proofs.Ones.{cell_one, within_below}
 use Rattle.array_lines.proofs.cell.read_cell.Goals as goal
 
 pub returns-in_err-word-clause-reading : goal.returns-in_err-word-clause-reading
 returns-in_err-word-clause-reading c =
-    let p = err_from_is_err_and c.from_residual.result c.from_residual.ensures.1 in
-    rw (p.1, p.2) (pinned (cell_one _ _ _ _) (off c.in_err-word.ensures.reading.reads))
+    rw (same_fault _ c.from_residual.ensures.1) (pinned (cell_one _ _ _ _) (off c.in_err-word.ensures.reading.reads))
 
 pub returns-in_err-column-clause-reading : goal.returns-in_err-column-clause-reading
 returns-in_err-column-clause-reading c =
-    let p = err_from_is_err_and c.from_residual-in_err-column.result c.from_residual-in_err-column.ensures.1 in
     let w = c.in_ok-word.ensures in
     let j = rw (c.from.ensures, w.text_stays) at c.in_err-column.ensures.reading.reads in
-    rw (p.1, p.2) (pinned (cell_one _ _ _ _) (on w.reading.reads (off j)))
+    rw (same_fault _ c.from_residual-in_err-column.ensures.1) (pinned (cell_one _ _ _ _) (on w.reading.reads (off j)))
 
 pub overflow_cast-cell : goal.overflow_cast-cell
 overflow_cast-cell c =

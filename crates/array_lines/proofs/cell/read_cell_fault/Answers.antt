@@ -1,9 +1,8 @@
 use Rattle.std.proofs.Common.{◌≡◌, ℕ, List, Result, sym, refl, subst}
-use Rattle.std.proofs.lemmas.Result.{err_from_is_err_and}
 use Rattle.cam.specs.declared.fault.Fault.{Fault}
 use Rattle.cam.specs.declared.index.CellIndex.{CellIndex}
 use Rattle.words.specs.Readings.{Gathered, on, off}
-use Rattle.words.proofs.Rules.{pinned}
+use Rattle.words.proofs.Rules.{pinned, same_fault}
 use Rattle.array_lines.specs.declared.cell.Defect.{Defect}
 use Rattle.array_lines.specs.declared.cell.CellWord.{CellWord}
 use Rattle.array_lines.specs.declared.cell.CellWord.TheVariants.{Storage, Wrong}
@@ -17,8 +16,7 @@ after_word text c v w a r e x = subst (λ u. CellFault text c u a r) (sym e) x
 
 pub returns-in_err-defect-clause-reading : goal.returns-in_err-defect-clause-reading
 returns-in_err-defect-clause-reading c =
-    let p = err_from_is_err_and c.from_residual.result c.from_residual.ensures.1 in
-    rw (p.1, p.2) (pinned (cell_fault_next_one _ _ _) (off c.in_err-defect.ensures.reading.reads))
+    rw (same_fault _ c.from_residual.ensures.1) (pinned (cell_fault_next_one _ _ _) (off c.in_err-defect.ensures.reading.reads))
 
 pub returns-in-Storage-clause-reading : goal.returns-in-Storage-clause-reading
 returns-in-Storage-clause-reading c =
@@ -26,19 +24,17 @@ returns-in-Storage-clause-reading c =
 
 pub returns-in_err-held-in-Wrong-clause-reading : goal.returns-in_err-held-in-Wrong-clause-reading
 returns-in_err-held-in-Wrong-clause-reading c =
-    let p = err_from_is_err_and c.from_residual-in_err-held-in-Wrong.result c.from_residual-in_err-held-in-Wrong.ensures.1 in
     let x = c.in_ok-defect.ensures in
     let h = rw x.text_stays at c.in_err-held-in-Wrong.ensures.reading.reads in
-    rw (p.1, p.2) (pinned (cell_fault_next_one _ _ _) (on x.reading.reads (after_word _ _ _ Wrong _ _ c.in-Wrong.is (off h))))
+    rw (same_fault _ c.from_residual-in_err-held-in-Wrong.ensures.1) (pinned (cell_fault_next_one _ _ _) (on x.reading.reads (after_word _ _ _ Wrong _ _ c.in-Wrong.is (off h))))
 
 pub returns-in_err-comparand-in-Wrong-clause-reading : goal.returns-in_err-comparand-in-Wrong-clause-reading
 returns-in_err-comparand-in-Wrong-clause-reading c =
-    let p = err_from_is_err_and c.from_residual-in_err-comparand-in-Wrong.result c.from_residual-in_err-comparand-in-Wrong.ensures.1 in
     let x = c.in_ok-defect.ensures in
     let y = c.in_ok-held-in-Wrong.ensures in
     let h = rw x.text_stays at y.reading.reads in
     let b = rw (y.text_stays, x.text_stays) at c.in_err-comparand-in-Wrong.ensures.reading.reads in
-    rw (p.1, p.2) (pinned (cell_fault_next_one _ _ _) (on x.reading.reads (after_word _ _ _ Wrong _ _ c.in-Wrong.is (on h (off b)))))
+    rw (same_fault _ c.from_residual-in_err-comparand-in-Wrong.ensures.1) (pinned (cell_fault_next_one _ _ _) (on x.reading.reads (after_word _ _ _ Wrong _ _ c.in-Wrong.is (on h (off b)))))
 
 pub returns-in_ok-comparand-in-Wrong-clause-reading : goal.returns-in_ok-comparand-in-Wrong-clause-reading
 returns-in_ok-comparand-in-Wrong-clause-reading c =

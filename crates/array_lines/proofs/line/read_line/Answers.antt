@@ -1,21 +1,18 @@
 use Rattle.std.proofs.Common.{refl}
-use Rattle.std.proofs.lemmas.Result.{err_from_is_err_and}
 use Rattle.words.specs.Readings.{on, off}
-use Rattle.words.proofs.Rules.{pinned}
+use Rattle.words.proofs.Rules.{pinned, same_fault}
 use Rattle.array_lines.proofs.Ones.{line_one}
 use Rattle.array_lines.proofs.line.read_line.Goals as goal
 
 pub returns-in_err-defect-clause-reading : goal.returns-in_err-defect-clause-reading
 returns-in_err-defect-clause-reading c =
-    let p = err_from_is_err_and c.from_residual.result c.from_residual.ensures.1 in
-    rw (p.1, p.2) (pinned (line_one _ _ _ _) (off c.in_err-defect.ensures.reading.reads))
+    rw (same_fault _ c.from_residual.ensures.1) (pinned (line_one _ _ _ _) (off c.in_err-defect.ensures.reading.reads))
 
 pub returns-in_err-want-clause-reading : goal.returns-in_err-want-clause-reading
 returns-in_err-want-clause-reading c =
-    let p = err_from_is_err_and c.from_residual-in_err-want.result c.from_residual-in_err-want.ensures.1 in
     let l = c.in_ok-defect.ensures in
     let e = rw l.text_stays at c.in_err-want.ensures.reading.reads in
-    rw (p.1, p.2) (pinned (line_one _ _ _ _) (on l.reading.reads (off e)))
+    rw (same_fault _ c.from_residual-in_err-want.ensures.1) (pinned (line_one _ _ _ _) (on l.reading.reads (off e)))
 
 pub returns-clause-reading : goal.returns-clause-reading
 returns-clause-reading c =

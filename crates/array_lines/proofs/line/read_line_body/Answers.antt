@@ -1,8 +1,7 @@
 use Rattle.std.proofs.Common.{◌≡◌, ℕ, List, Some, Ok, Option, Result, sym, refl, ap, subst}
-use Rattle.std.proofs.lemmas.Result.{err_from_is_err_and}
 use Rattle.cam.specs.declared.fault.Fault.{Fault}
 use Rattle.words.specs.Readings.{Gathered, gathered, on, off}
-use Rattle.words.proofs.Rules.{pinned}
+use Rattle.words.proofs.Rules.{pinned, same_fault}
 use Rattle.array_lines.specs.declared.cell.Defect.{Defect}
 use Rattle.array_lines.specs.declared.line.LineWord.{LineWord}
 use Rattle.array_lines.specs.declared.line.LineWord.TheVariants.{Note, Cell, Mark}
@@ -17,15 +16,13 @@ after_word N W text v w a r e x = subst (λ u. LineBody N W text u a r) (sym e) 
 
 pub returns-in_err-one_of-clause-reading : goal.returns-in_err-one_of-clause-reading
 returns-in_err-one_of-clause-reading c =
-    let p = err_from_is_err_and c.from_residual.result c.from_residual.ensures.1 in
-    rw (p.1, p.2) (pinned (body_one _ _ _ _) (off c.in_err-one_of.ensures.reading.reads))
+    rw (same_fault _ c.from_residual.ensures.1) (pinned (body_one _ _ _ _) (off c.in_err-one_of.ensures.reading.reads))
 
 pub returns-in_err-outermost_remark-in-Note-clause-reading : goal.returns-in_err-outermost_remark-in-Note-clause-reading
 returns-in_err-outermost_remark-in-Note-clause-reading c =
-    let p = err_from_is_err_and c.from_residual-in_err-outermost_remark-in-Note.result c.from_residual-in_err-outermost_remark-in-Note.ensures.1 in
     let x = c.in_ok-one_of.ensures in
     let e = rw x.text_stays at c.in_err-outermost_remark-in-Note.ensures.reading.reads in
-    rw (p.1, p.2) (pinned (body_one _ _ _ _) (on x.reading.reads (after_word _ _ _ _ Note _ _ c.in-Note.is (off e))))
+    rw (same_fault _ c.from_residual-in_err-outermost_remark-in-Note.ensures.1) (pinned (body_one _ _ _ _) (on x.reading.reads (after_word _ _ _ _ Note _ _ c.in-Note.is (off e))))
 
 pub returns-in-Note-clause-reading : goal.returns-in-Note-clause-reading
 returns-in-Note-clause-reading c =
@@ -35,24 +32,21 @@ returns-in-Note-clause-reading c =
 
 pub returns-in_err-defect-in-Cell-clause-reading : goal.returns-in_err-defect-in-Cell-clause-reading
 returns-in_err-defect-in-Cell-clause-reading c =
-    let p = err_from_is_err_and c.from_residual-in_err-defect-in-Cell.result c.from_residual-in_err-defect-in-Cell.ensures.1 in
     let x = c.in_ok-one_of.ensures in
     let d = rw x.text_stays at c.in_err-defect-in-Cell.ensures.reading.reads in
-    rw (p.1, p.2) (pinned (body_one _ _ _ _) (on x.reading.reads (after_word _ _ _ _ Cell _ _ c.in-Cell.is (off d))))
+    rw (same_fault _ c.from_residual-in_err-defect-in-Cell.ensures.1) (pinned (body_one _ _ _ _) (on x.reading.reads (after_word _ _ _ _ Cell _ _ c.in-Cell.is (off d))))
 
 pub returns-in_err-defect-in-Mark-clause-reading : goal.returns-in_err-defect-in-Mark-clause-reading
 returns-in_err-defect-in-Mark-clause-reading c =
-    let p = err_from_is_err_and c.from_residual-in_err-defect-in-Mark.result c.from_residual-in_err-defect-in-Mark.ensures.1 in
     let x = c.in_ok-one_of.ensures in
     let d = rw x.text_stays at c.in_err-defect-in-Mark.ensures.reading.reads in
-    rw (p.1, p.2) (pinned (body_one _ _ _ _) (on x.reading.reads (after_word _ _ _ _ Mark _ _ c.in-Mark.is (off d))))
+    rw (same_fault _ c.from_residual-in_err-defect-in-Mark.ensures.1) (pinned (body_one _ _ _ _) (on x.reading.reads (after_word _ _ _ _ Mark _ _ c.in-Mark.is (off d))))
 
 pub returns-in_err-want-clause-reading : goal.returns-in_err-want-clause-reading
 returns-in_err-want-clause-reading c =
-    let p = err_from_is_err_and c.from_residual-in_err-want.result c.from_residual-in_err-want.ensures.1 in
     let x = c.in_ok-one_of.ensures in
     let m = c.match-branch-2 in
-    rw (p.1, p.2) (pinned (body_one _ _ _ _) (on x.reading.reads (elim m.branch [
+    rw (same_fault _ c.from_residual-in_err-want.ensures.1) (pinned (body_one _ _ _ _) (on x.reading.reads (elim m.branch [
       | in-Cell+in_ok-defect-in-Cell w ↦
           let d = rw x.text_stays at w.in_ok-defect-in-Cell.ensures.reading.reads in
           let e = rw (w.cursor-is, w.in_ok-defect-in-Cell.ensures.text_stays, x.text_stays) at c.in_err-want.ensures.reading.reads in

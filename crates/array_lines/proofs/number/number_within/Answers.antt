@@ -1,15 +1,13 @@
 use Rattle.std.proofs.Common.{rules, tests}
-use Rattle.std.proofs.lemmas.Result.{err_from_is_err_and}
 use Rattle.words.specs.Readings.{on, off}
-use Rattle.words.proofs.Rules.{pinned}
+use Rattle.words.proofs.Rules.{pinned, same_fault}
 use Rattle.array_lines.specs.Numbers.{within, outside}
 use Rattle.array_lines.proofs.Ones.{within_one}
 use Rattle.array_lines.proofs.number.number_within.Goals as goal
 
 pub returns-in_err-number-clause-reading : goal.returns-in_err-number-clause-reading
 returns-in_err-number-clause-reading c =
-    let p = err_from_is_err_and c.from_residual.result c.from_residual.ensures.1 in
-    rw (p.1, p.2) (pinned (within_one _ _ _ _ _) (off c.in_err-number.ensures.reading.reads))
+    rw (same_fault _ c.from_residual.ensures.1) (pinned (within_one _ _ _ _ _) (off c.in_err-number.ensures.reading.reads))
 
 pub returns-then-not-contains-clause-reading : goal.returns-then-not-contains-clause-reading
 returns-then-not-contains-clause-reading c =

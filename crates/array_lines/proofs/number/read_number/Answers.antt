@@ -1,9 +1,8 @@
 use Rattle.std.proofs.Common.{◌≡◌, ◌∙◌, ℕ, true, false, List, Option, Some, None, MatchOption, Ok, Err, sym, subst}
 use Rattle.std.specs.Option.{ok_or}
-use Rattle.std.proofs.lemmas.Result.{err_from_is_err_and}
 use Rattle.cam.specs.declared.fault.Fault.{Fault}
 use Rattle.words.specs.Readings.{on, off}
-use Rattle.words.proofs.Rules.{pinned, same_ok, same_err, ok_err}
+use Rattle.words.proofs.Rules.{pinned, same_ok, same_err, ok_err, same_fault}
 use Rattle.array_lines.specs.Numbers.{is_numeral, numeral, number, no_number}
 use Rattle.array_lines.proofs.Ones.{number_one}
 use Rattle.array_lines.proofs.number.read_number.Goals as goal
@@ -22,15 +21,13 @@ unwritten w None f g e told = (told, sym (same_err f g e))
 
 pub returns-in_err-word-clause-reading : goal.returns-in_err-word-clause-reading
 returns-in_err-word-clause-reading c =
-    let p = err_from_is_err_and c.from_residual.result c.from_residual.ensures.1 in
-    rw (p.1, p.2) (pinned (number_one _ _) (off c.in_err-word.ensures.reading.reads))
+    rw (same_fault _ c.from_residual.ensures.1) (pinned (number_one _ _) (off c.in_err-word.ensures.reading.reads))
 
 pub returns-in_err-value-clause-reading : goal.returns-in_err-value-clause-reading
 returns-in_err-value-clause-reading c =
-    let p = err_from_is_err_and c.from_residual-in_err-value.result c.from_residual-in_err-value.ensures.1 in
     let w = c.in_ok-word.ensures in
     let n = rw w.spelling at (unwritten c.in_ok-word.word.bytes.now c.numeral_value.result _ _ (sym c.ok_or.ensures.value ∙ c.in_err-value.was) c.numeral_value.ensures.value_of_digits) in
-    rw (p.1, p.2, n.1, c.not_wanted.ensures.not_wanted_there) (pinned (number_one _ _) (on w.reading.reads (no_number n.0)))
+    rw (same_fault _ c.from_residual-in_err-value.ensures.1, n.1, c.not_wanted.ensures.not_wanted_there) (pinned (number_one _ _) (on w.reading.reads (no_number n.0)))
 
 pub returns-clause-reading : goal.returns-clause-reading
 returns-clause-reading c =

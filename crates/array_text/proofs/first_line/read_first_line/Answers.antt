@@ -1,25 +1,21 @@
-use Rattle.std.proofs.lemmas.Result.{err_from_is_err_and}
 use Rattle.words.specs.Readings.{on, off}
-use Rattle.words.proofs.Rules.{pinned}
+use Rattle.words.proofs.Rules.{pinned, same_fault}
 use Rattle.array_text.proofs.Ones.{first_line_one}
 use Rattle.array_text.proofs.first_line.read_first_line.Goals as goal
 
 pub returns-in_err-check_length-clause-reading : goal.returns-in_err-check_length-clause-reading
 returns-in_err-check_length-clause-reading c =
-    let p = err_from_is_err_and c.from_residual.result c.from_residual.ensures.1 in
-    rw (p.1, p.2) (pinned (first_line_one _ _) (off c.in_err-check_length.ensures.reading.reads))
+    rw (same_fault _ c.from_residual.ensures.1) (pinned (first_line_one _ _) (off c.in_err-check_length.ensures.reading.reads))
 
 pub returns-in_err-want-clause-reading : goal.returns-in_err-want-clause-reading
 returns-in_err-want-clause-reading c =
-    let p = err_from_is_err_and c.from_residual-in_err-want.result c.from_residual-in_err-want.ensures.1 in
-    rw (p.1, p.2) (pinned (first_line_one _ _) (on c.in_ok-check_length.ensures.reading.reads (off c.in_err-want.ensures.reading.reads)))
+    rw (same_fault _ c.from_residual-in_err-want.ensures.1) (pinned (first_line_one _ _) (on c.in_ok-check_length.ensures.reading.reads (off c.in_err-want.ensures.reading.reads)))
 
 pub returns-in_err-want_word-clause-reading : goal.returns-in_err-want_word-clause-reading
 returns-in_err-want_word-clause-reading c =
-    let p = err_from_is_err_and c.from_residual-in_err-want_word.result c.from_residual-in_err-want_word.ensures.1 in
     let o = c.in_ok-want.ensures in
     let n = rw o.text_stays at c.in_err-want_word.ensures.reading.reads in
-    rw (p.1, p.2) (pinned (first_line_one _ _) (on c.in_ok-check_length.ensures.reading.reads (on o.reading.reads (off n))))
+    rw (same_fault _ c.from_residual-in_err-want_word.ensures.1) (pinned (first_line_one _ _) (on c.in_ok-check_length.ensures.reading.reads (on o.reading.reads (off n))))
 
 pub returns-clause-reading : goal.returns-clause-reading
 returns-clause-reading c =

@@ -1,30 +1,26 @@
 use Rattle.std.proofs.Common.{refl, arith}
-use Rattle.std.proofs.lemmas.Result.{err_from_is_err_and}
 use Rattle.words.specs.Readings.{on, off}
-use Rattle.words.proofs.Rules.{pinned}
+use Rattle.words.proofs.Rules.{pinned, same_fault}
 use Rattle.array_lines.proofs.Ones.{within_below}
 use Rattle.array_text.proofs.Ones.{size_one}
 use Rattle.array_text.proofs.first_line.read_size.Goals as goal
 
 pub returns-in_err-words-clause-reading : goal.returns-in_err-words-clause-reading
 returns-in_err-words-clause-reading c =
-    let p = err_from_is_err_and c.from_residual.result c.from_residual.ensures.1 in
-    rw (p.1, p.2) (pinned (size_one _ _) (off c.in_err-words.ensures.reading.reads))
+    rw (same_fault _ c.from_residual.ensures.1) (pinned (size_one _ _) (off c.in_err-words.ensures.reading.reads))
 
 pub returns-in_err-width-clause-reading : goal.returns-in_err-width-clause-reading
 returns-in_err-width-clause-reading c =
-    let p = err_from_is_err_and c.from_residual-in_err-width.result c.from_residual-in_err-width.ensures.1 in
     let n = c.in_ok-words.ensures in
     let w = rw n.text_stays at c.in_err-width.ensures.reading.reads in
-    rw (p.1, p.2) (pinned (size_one _ _) (on n.reading.reads (off w)))
+    rw (same_fault _ c.from_residual-in_err-width.ensures.1) (pinned (size_one _ _) (on n.reading.reads (off w)))
 
 pub returns-in_err-want-clause-reading : goal.returns-in_err-want-clause-reading
 returns-in_err-want-clause-reading c =
-    let p = err_from_is_err_and c.from_residual-in_err-want.result c.from_residual-in_err-want.ensures.1 in
     let n = c.in_ok-words.ensures in
     let w = rw n.text_stays at c.in_ok-width.ensures.reading.reads in
     let e = rw (c.in_ok-width.ensures.text_stays, n.text_stays) at c.in_err-want.ensures.reading.reads in
-    rw (p.1, p.2) (pinned (size_one _ _) (on n.reading.reads (on w (off e))))
+    rw (same_fault _ c.from_residual-in_err-want.ensures.1) (pinned (size_one _ _) (on n.reading.reads (on w (off e))))
 
 pub overflow_cast-result : goal.overflow_cast-result
 overflow_cast-result c =

@@ -1,7 +1,7 @@
 use Rattle.std.proofs.Common.{ap, ◌∙◌}
-use Rattle.std.proofs.lemmas.Result.{err_from_is_err_and}
 use Rattle.std.proofs.lemmas.Option.{MatchOption-at_some}
 use Rattle.words.specs.Readings.{on, off}
+use Rattle.words.proofs.Rules.{same_fault}
 use Rattle.array_lines.specs.Cells.{Inside}
 use Rattle.array_lines.proofs.Ones.{line_inside}
 use Rattle.array_text.proofs.Ones.{adds_none}
@@ -10,8 +10,7 @@ use Rattle.array_text.proofs.lines.add_line.Goals as goal
 
 pub returns-in_err-defect-clause-reading : goal.returns-in_err-defect-clause-reading
 returns-in_err-defect-clause-reading c =
-    let p = err_from_is_err_and c.from_residual.result c.from_residual.ensures.1 in
-    rw (p.1, p.2) (λ N W ds h.
+    rw (same_fault _ c.from_residual.ensures.1) (λ N W ds h.
     let words = c.size_of.ensures.words_of_the_array ∙ ap (λ B. B.words) h.build in
     let bits = c.size_of.ensures.bits_of_the_array ∙ ap (λ B. B.width) h.build in
     off (rw (words, bits) at c.in_err-defect.ensures.reading.reads))

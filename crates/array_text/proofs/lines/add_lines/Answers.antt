@@ -1,15 +1,14 @@
 use Rattle.std.proofs.Common.{◌∙◌, arith}
-use Rattle.std.proofs.lemmas.Result.{err_from_is_err_and}
 use Rattle.words.specs.Listings.{shut, more, lexed, other, piece}
+use Rattle.words.proofs.Rules.{same_fault}
 use Rattle.array_text.proofs.Later.{keeps_on}
 use Rattle.array_text.proofs.lines.add_lines.Goals as goal
 
 pub returns-in_err-token-clause-reading : goal.returns-in_err-token-clause-reading
 returns-in_err-token-clause-reading c =
-    let p = err_from_is_err_and c.from_residual.result c.from_residual.ensures.1 in
     let i = c.loop-token.invariant in
     let x = rw i.text_stays at c.in_err-token.ensures.reading.reads in
-    rw (p.1, p.2) (λ N W ds h. (i.rest N W ds h).1.1 _ (lexed x))
+    rw (same_fault _ c.from_residual.ensures.1) (λ N W ds h. (i.rest N W ds h).1.1 _ (lexed x))
 
 pub returns-in-Close-clause-reading : goal.returns-in-Close-clause-reading
 returns-in-Close-clause-reading c = λ N W ds h.
@@ -20,12 +19,11 @@ returns-in-Close-clause-reading c = λ N W ds h.
 
 pub returns-in_err-add_line-in-Open-clause-reading : goal.returns-in_err-add_line-in-Open-clause-reading
 returns-in_err-add_line-in-Open-clause-reading c =
-    let p = err_from_is_err_and c.from_residual-in_err-add_line-in-Open.result c.from_residual-in_err-add_line-in-Open.ensures.1 in
     let i = c.loop-token.invariant in
     let t = c.in_ok-token.ensures in
     let x = rw i.text_stays at t.reading.reads in
     let l = rw (t.text_stays, i.text_stays) at c.in_err-add_line-in-Open.ensures.reading in
-    rw (p.1, p.2) (λ N W ds h.
+    rw (same_fault _ c.from_residual-in_err-add_line-in-Open.ensures.1) (λ N W ds h.
     let y = i.rest N W ds h in
     y.1.1 _ (piece x c.in-Open.is (l N W y.0 y.1.0)))
 

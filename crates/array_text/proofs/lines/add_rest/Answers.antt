@@ -1,20 +1,18 @@
 use Rattle.std.proofs.Common.{[]}
-use Rattle.std.proofs.lemmas.Result.{err_from_is_err_and}
 use Rattle.words.specs.Readings.{on, off}
+use Rattle.words.proofs.Rules.{same_fault}
 use Rattle.array_text.proofs.Leaving.{rest_leaves}
 use Rattle.array_text.proofs.lines.add_rest.Goals as goal
 
 pub returns-in_err-add_lines-clause-reading : goal.returns-in_err-add_lines-clause-reading
 returns-in_err-add_lines-clause-reading c =
-    let p = err_from_is_err_and c.from_residual.result c.from_residual.ensures.1 in
-    rw (p.1, p.2) (λ N W h. off (c.in_err-add_lines.ensures.reading N W [] h))
+    rw (same_fault _ c.from_residual.ensures.1) (λ N W h. off (c.in_err-add_lines.ensures.reading N W [] h))
 
 pub returns-in_err-want-clause-reading : goal.returns-in_err-want-clause-reading
 returns-in_err-want-clause-reading c =
-    let p = err_from_is_err_and c.from_residual-in_err-want.result c.from_residual-in_err-want.ensures.1 in
     let l = c.in_ok-add_lines.ensures in
     let e = rw l.text_stays at c.in_err-want.ensures.reading.reads in
-    rw (p.1, p.2) (λ N W h. on (l.reading N W [] h).1.0 (off e))
+    rw (same_fault _ c.from_residual-in_err-want.ensures.1) (λ N W h. on (l.reading N W [] h).1.0 (off e))
 
 pub returns-clause-reading : goal.returns-clause-reading
 returns-clause-reading c = λ N W h.
