@@ -71,6 +71,7 @@ impl WordRecord {
 
     // The columns whose answer is reversed where they hold `held`. Most words have no wrong pair at all: the test for
     // that saves a compare of many words a third of its time.
+    #[tactic(auto, using(cam::proofs::BitLaws::bits))]
     fn reversed(&self, held: u64, pattern: u64) -> u64
         ensures columns_with_wrong_pair { (j : ℕ) → j < 64 → bit result j ≡ wrong_of self.now j (bit held j) (bit pattern j) }
     {
@@ -113,6 +114,7 @@ impl WordRecord {
     }
 
     // Gives a column that stores well a storage defect; an sa0 cell then holds 0, an sa1 cell 1.
+    #[tactic(auto, using(cam::proofs::BitLaws::bits))]
     pub(crate) fn plant_storage(&mut self, column: ColumnIndex, defect: StorageDefect)
         requires in_a_word { column.number < 64 }
         requires stores_well { storage_of self.old column.number ≡ Good }
@@ -139,6 +141,7 @@ impl WordRecord {
     }
 
     // Puts a pair into the wrong set of a column.
+    #[tactic(auto, using(cam::proofs::BitLaws::bits))]
     pub(crate) fn plant_pair(&mut self, column: ColumnIndex, pair: Pair)
         requires in_a_word { column.number < 64 }
         ensures wrong_set_of_column { (i : ℕ) (h b : Bool) → wrong_of self.new i h b ≡ ((i == column.number && is_pair pair.held pair.comparand h b) || wrong_of self.old i h b) }

@@ -1,4 +1,4 @@
-use Rattle.std.proofs.Common.{ℕ, ◌^◌, ◌<◌, ap, arith, rules}
+use Rattle.std.proofs.Common.{ℕ, ap, arith}
 use Rattle.cam.specs.Bits.{bit}
 use Rattle.cam.proofs.BitLaws.{bits, bit_zero}
 use Rattle.planes.proofs.word.WordRecord.reversed.Goals as goal
@@ -12,9 +12,3 @@ returns-then-self-eq0 c =
           let zero = bit_zero j in
           grind arith;
     }
-
-pub returns : goal.returns
-returns c =
-    let held_fits : c.args.held < 2 ^ 64 = search rules in
-    let pattern-fits : c.args.pattern < 2 ^ 64 = search rules in
-    record { columns_with_wrong_pair = λ j l. simp bits (grind arith) }
