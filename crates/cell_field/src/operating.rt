@@ -36,7 +36,7 @@ impl<C: CellKind> CellField<'_, C> {
             .zip(&self.marks[..words])
             .any(
                 |(row, mark)| -> bool
-                    requires { length row.now ≤ 64 }
+                    requires few_bits { length row.now ≤ 64 }
                 { *mark == Mark::Set && row_matches(row, pattern, mask) },
             )
     }

@@ -30,6 +30,7 @@ impl CellKind for TableCell {
     }
 
     fn held(&self) -> bool {
+        // A match of its own: of the five storages, two say what a cell shows and four what it takes.
         match self.storage {
             Storage::Sa0 => false,
             Storage::Sa1 => true,
