@@ -19,56 +19,49 @@ use planes::word::WordRecord;
 
 impl CampaignRecords {
     // At how many of its places a fault is detected.
-    fn count_detected(self, test: &Test, fault: CampaignFault) -> (u32, Self)
-        ensures places_with_a_miss { result.0 ≡ count_by (detected_at (elements_of test.now) fault self.size.words self.size.width) (places fault self.size.words self.size.width) }
-        ensures size_stays { result.1.size ≡ self.size }
+    fn count_detected(&mut self, test: &Test, fault: CampaignFault) -> u32
+        ensures places_with_a_miss { result ≡ count_by (detected_at (elements_of test.now) fault self.old.size.words self.old.size.width) (places fault self.old.size.words self.old.size.width) }
+        ensures size_stays { self.new.size ≡ self.old.size }
     {
         let size = self.size;
-        let mut own = self;
         let mut count = 0u32;
-        // loops, since each place hands the records on to the next
+        // loops: of the records a chain whose closure works on them would tell nothing afterwards
         for word in 0..size.words {
             for column in 0..fault.places_in_word(size.width) {
                 let cell = CellIndex {
                     word: WordIndex { number: word },
                     column: ColumnIndex { number: column },
                 };
-                let (detected, back) = own.examine(test, fault, cell);
-                own = back;
+                let detected = self.examine(test, fault, cell);
                 count += u32::from(detected);
             }
         }
-        (count, own)
+        count
     }
 
     // The row of a fault.
-    fn tell(self, test: &Test, fault: CampaignFault) -> (Row, Self)
-        ensures row_of_fault { result.0 ≡ row_of (elements_of test.now) self.size.words self.size.width fault }
-        ensures size_stays { result.1.size ≡ self.size }
+    fn tell(&mut self, test: &Test, fault: CampaignFault) -> Row
+        ensures row_of_fault { result ≡ row_of (elements_of test.now) self.old.size.words self.old.size.width fault }
+        ensures size_stays { self.new.size ≡ self.old.size }
     {
         let total = self.size.words as u32 * fault.places_in_word(self.size.width) as u32;
-        let (detected, own) = self.count_detected(test, fault);
-        let row = Row {
+        let detected = self.count_detected(test, fault);
+        Row {
             detected,
             total,
             tenths: tenths_of_percent(detected, total),
-        };
-        (row, own)
+        }
     }
 
     // Fills the row of each fault.
-    fn fill(self, test: &Test, rows: &mut [Row; 15]) -> Self
-        ensures row_of_each_fault { rows.new ≡ map (row_of (elements_of test.now) self.size.words self.size.width) campaign_faults }
-        ensures size_stays { result.size ≡ self.size }
+    fn fill(&mut self, test: &Test, rows: &mut [Row; 15])
+        ensures row_of_each_fault { rows.new ≡ map (row_of (elements_of test.now) self.old.size.words self.old.size.width) campaign_faults }
+        ensures size_stays { self.new.size ≡ self.old.size }
     {
-        let mut own = self;
         // rows by their numbers: what an iterator has written to them would not be known afterwards
         for (number, fault) in faults_of_rows().iter().enumerate() {
-            let (row, back) = own.tell(test, *fault);
-            rows[number] = row;
-            own = back;
+            rows[number] = self.tell(test, *fault);
         }
-        own
     }
 }
 
@@ -92,6 +85,7 @@ pub fn campaign(
     ensures places_of_faults { PlacesAre }
     ensures laws_of_tenths { TenthsLaws }
 {
-    let own = CampaignRecords::new(records, size)?.fill(test, rows);
+    let mut own = CampaignRecords::new(records, size)?;
+    own.fill(test, rows);
     Ok(PlaneArray::new(own.records, size).unwrap().into_records())
 }

@@ -18,13 +18,13 @@ few false = omega arith
 
 pub loop-column-preserved : goal.loop-column-preserved
 loop-column-preserved c =
-    let size = c.args.self.size in
+    let size = c.args.self.now.size in
     let det : Place → Bool = detected_at (elements_of c.args.test.now) c.args.fault size.words size.width in
     let a = c.loop-word.word in
     let j = c.loop-column.column in
     let inv = c.loop-column.invariant in
     let told = c.examine-detected.ensures in
-    let here : c.examine-detected.result.0 ≡ det (place_at a j) =
+    let here : c.examine-detected.result ≡ det (place_at a j) =
     told.detected_at_place ∙ ap (λ (s : Size). detected_at (elements_of c.args.test.now) c.args.fault s.words s.width (place_at a j)) inv.2 in
     let one : c.from-count.result ≡ cond (det (place_at a j)) 1 0 = c.from-count.ensures ∙ ap from_bool here ∙ byte_is (det (place_at a j)) in (
       omega (arith, one, inv.0, column_more det a j),
@@ -35,13 +35,13 @@ loop-column-preserved c =
 pub loop-word-preserved : goal.loop-word-preserved
 loop-word-preserved c =
     let f = c.args.fault in
-    let size = c.args.self.size in
+    let size = c.args.self.now.size in
     let det : Place → Bool = detected_at (elements_of c.args.test.now) f size.words size.width in
     let a = c.loop-word.word in
     let inv = c.loop-column.invariant in
     let all : c.loop-column.column ≡ places_in f size.width = omega (arith, c.loop-column-test.false, c.places_in_word-column-end.ensures.cells_or_mark) in
     let here : count_by det (some_of c.loop-column.column a) ≡ count_by det (some_of (places_in f size.width) a) = ap (λ (n : ℕ). count_by det (some_of n a)) all in (
       omega (arith, inv.0, c.loop-word.invariant.0, word_more det f size.width a),
-      omega (arith, inv.1, c.loop-word.invariant.1, places_few f size.width c.args.self.some_bits, c.args.self.few_bits),
+      omega (arith, inv.1, c.loop-word.invariant.1, places_few f size.width c.args.self.now.some_bits, c.args.self.now.few_bits),
       inv.2,
     )

@@ -16,18 +16,18 @@ loop-number-preserved c =
     let rows = c.loop-number.rows in
     let i = c.loop-number.number in
     let inv = c.loop-number.invariant in
-    let told = c.tell-back.ensures in
+    let told = c.tell.ensures in
     let many : length faults ≡ 15 = ap length c.faults_of_rows.ensures.in_order in (
       take_more_set rows i _ (omega arith)
           ∙ ap₂ (λ xs x. xs ++ x ∷ []) inv.0 (told.row_of_fault ∙ ap (λ s. row s (get_or faults i (Comparison Smf))) inv.2)
-          ∙ sym (map_more (row c.args.self.size) faults i _ (omega arith)),
+          ∙ sym (map_more (row c.args.self.now.size) faults i _ (omega arith)),
       length-set rows i _ ∙ inv.1,
       told.size_stays ∙ inv.2,
     )
 
 pub returns-clause-row_of_each_fault : goal.returns-clause-row_of_each_fault
 returns-clause-row_of_each_fault c =
-    let row : CampaignFault → Row = row_of (elements_of c.args.test.now) c.args.self.size.words c.args.self.size.width in
+    let row : CampaignFault → Row = row_of (elements_of c.args.test.now) c.args.self.now.size.words c.args.self.now.size.width in
     let rows = c.loop-number.rows in
     let i = c.loop-number.number in
     let inv = c.loop-number.invariant in
