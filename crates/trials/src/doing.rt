@@ -22,28 +22,24 @@ pub(crate) struct Log {
     pub(crate) outcomes: usize,
 }
 
-// Does a step and writes its outcome, if it has one, behind those before it.
-fn do_step<C: CamArray>(array: &mut C, step: Step, buffer: &mut [u8], log: Log) -> Log
-    requires room { is_check step.operation ≡ true → log.outcomes < length buffer.old }
-    requires operations_fit { log.so_far.operations < 65536 }
-    requires misses_fit { log.so_far.misses < 65536 }
-    ensures counted_once { result ≡ logged (C.build array.old) step (C.state array.old) log }
-    ensures outcome_noted { buffer.new ≡ noted (C.build array.old) step (C.state array.old) log.outcomes buffer.old }
-    ensures state_after { C.state array.new ≡ operated (C.build array.old) step.operation (C.state array.old) }
-    ensures build_stays { C.build array.new ≡ C.build array.old }
-{
-    let missed = perform(array, step);
-    let mut outcomes = log.outcomes;
-    if is_check(step.operation) {
-        buffer[outcomes] = missed as u8;
-        outcomes += 1;
-    }
-    Log {
-        so_far: TrialResult {
-            operations: log.so_far.operations + 1,
-            misses: log.so_far.misses + missed as u32,
-        },
-        outcomes,
+impl Log {
+    // Does a step and writes its outcome, if it has one, behind those before it.
+    fn do_step<C: CamArray>(&mut self, array: &mut C, step: Step, buffer: &mut [u8])
+        requires room { is_check step.operation ≡ true → self.old.outcomes < length buffer.old }
+        requires operations_fit { self.old.so_far.operations < 65536 }
+        requires misses_fit { self.old.so_far.misses < 65536 }
+        ensures counted_once { self.new ≡ logged (C.build array.old) step (C.state array.old) self.old }
+        ensures outcome_noted { buffer.new ≡ noted (C.build array.old) step (C.state array.old) self.old.outcomes buffer.old }
+        ensures state_after { C.state array.new ≡ operated (C.build array.old) step.operation (C.state array.old) }
+        ensures build_stays { C.build array.new ≡ C.build array.old }
+    {
+        let missed = perform(array, step);
+        if is_check(step.operation) {
+            buffer[self.outcomes] = missed as u8;
+            self.outcomes += 1;
+        }
+        self.so_far.operations += 1;
+        self.so_far.misses += missed as u32;
     }
 }
 
@@ -60,7 +56,7 @@ pub(crate) fn do_all<C: CamArray>(test: &Test, array: &mut C, buffer: &mut [u8])
     for element in test.elements() {
         for visit in 0..element.visits(size) {
             for step in element.steps(size, visit) {
-                log = do_step(array, step, buffer, log);
+                log.do_step(array, step, buffer);
             }
         }
     }

@@ -20,8 +20,8 @@ loop-step-init g c =
     c.loop-element-test.true c.loop-visit-test.true c.visits-visit-end.ensures.visit_count c.steps-step-items.ensures.each_step_of_the_visit c.into_iter-step-iterator.ensures.into_iter_gives))
     ∙ c.loop-visit.invariant
 
-pub do_step-log-requires : goal.do_step-log-requires
-do_step-log-requires g c =
+pub do_step-requires : goal.do_step-requires
+do_step-requires g c =
     let m = g.C.CamArray in
     let x = c.args.array.now in
     let size = c.size_of-size.result in
@@ -37,7 +37,7 @@ loop-step-preserved g c =
     let later = left_in size.words (min size.width 64) (drop c.loop-element.element-index (map meant c.elements-element-items.result.now)) (c.loop-visit.visit + 1) 0 in
     let here = sym (outlook_at _ _ _ _ _ _ (ap (λ xs. xs ++ later) c.in-Some.ensures.steps)) ∙ c.loop-step.invariant in
     let fits = outlook_room _ _ _ _ _ _ _ _ _ _ here c.requires.room (omega arith) in
-    let told = c.do_step-log.ensures in
+    let told = c.do_step.ensures in
     outlook_step _ _ _ _ _ _ c.loop-step.buffer _ c.loop-step.log _ told.build_stays told.state_after told.outcome_noted told.counted_once fits.0 ∙ here
 
 pub loop-visit-preserved : goal.loop-visit-preserved
