@@ -22,11 +22,11 @@ use Rattle.bench.specs.Judging.{judge_questions}
 use Rattle.bench.proofs.Ruling.{found_cases}
 
 -- a call whose questions are all answered yes is granted
-granted_in : {X E : Type 0} (fault : E → Fault) (qs : List Question) (r : Result X E) → first_no qs ≡ 0 → AsksIn fault qs r → (x : X) × (r ≡ Ok x)
+pub granted_in : {X E : Type 0} (fault : E → Fault) (qs : List Question) (r : Result X E) → first_no qs ≡ 0 → AsksIn fault qs r → (x : X) × (r ≡ Ok x)
 granted_in fault qs (Ok x) z a = (x, refl)
 granted_in fault qs (Err e) z a = absurd (refused_not_0 (first_no qs) (fault e) a z)
 
-at_ok : {X E : Type 0} (P : X → Type 0) (Q : E → Type 0) (r : Result X E) (x : X) → r ≡ Ok x → MatchResult r P Q → P x
+pub at_ok : {X E : Type 0} (P : X → Type 0) (Q : E → Type 0) (r : Result X E) (x : X) → r ≡ Ok x → MatchResult r P Q → P x
 at_ok {X = X} {E = E} P Q r x e m = let M : Result X E → Type 0 = λ r. MatchResult r P Q in subst M e m
 
 -- what was found is sound exactly without a defect
