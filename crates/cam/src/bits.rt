@@ -17,6 +17,7 @@ pub fn low_ones(width: u8) -> u64
 }
 
 // Whether bit `place` of a number is 1; past the 64 bits none is.
+#[tactic(auto, using(crate::proofs::BitLaws::bit_test, crate::proofs::BitLaws::bit_past_word))]
 pub fn bit_is_set(number: u64, place: u8) -> bool
     ensures bit_at_place { result ≡ bit number place }
 {

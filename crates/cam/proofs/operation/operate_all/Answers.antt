@@ -1,6 +1,5 @@
-use Rattle.std.proofs.Common.{sym, ap, ◌∙◌, subst}
+use Rattle.std.proofs.Common.{ap, ◌∙◌}
 use Rattle.std.proofs.lemmas.List.{take_all}
-use Rattle.cam.specs.Model.{Steady}
 use Rattle.cam.specs.Operations.{after_all}
 use Rattle.cam.proofs.Steadiness.{steadiness_stays}
 use Rattle.cam.proofs.Operating.{after_turn, tally_rises}
@@ -13,17 +12,13 @@ loop-operation-preserved g c = (
       c.loop-operation-test.true c.loop-operation.invariant.0 c.loop-operation.invariant.1 c.operate.ensures.state_after,
 )
 
-pub returns : goal.returns
-returns g c =
+pub returns-clause-tally_rises : goal.returns-clause-tally_rises
+returns-clause-tally_rises g c =
     let m = g.C.CamArray in
     let x = c.args.array.now in
     let os = c.args.operations.now in
-    let ends = c.loop-operation.invariant.1
-    ∙ ap (λ xs. after_all (m.build x) xs (m.state x)) (take_all c.loop-operation.operation-index os c.loop-operation-test.false) in
-    record {
-      state_after = ends;
-      build_stays = c.loop-operation.invariant.0;
-      steady_stays = subst (Steady (m.build x)) (sym ends) (steadiness_stays (m.build x) os (m.state x) (m.formed x).steady);
-      tally_rises = ap (λ S. S.tally) ends ∙ tally_rises (m.build x) os (m.state x) (m.formed x).tally_within;
-      steadiness_of_the_model = steadiness_stays;
-    }
+    ap (λ S. S.tally) (c.loop-operation.invariant.1 ∙ ap (λ xs. after_all (m.build x) xs (m.state x)) (take_all c.loop-operation.operation-index os c.loop-operation-test.false))
+    ∙ tally_rises (m.build x) os (m.state x) (m.formed x).tally_within
+
+pub returns-clause-steadiness_of_the_model : goal.returns-clause-steadiness_of_the_model
+returns-clause-steadiness_of_the_model g c = steadiness_stays
