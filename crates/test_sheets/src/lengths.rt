@@ -1,9 +1,7 @@
 // How long sheets are.
-ghost use Rattle.std.specs.Prelude.{◌≡◌, ◌≤◌, map, length};
-ghost use Rattle.std.specs.List.{flat_map};
-ghost use Rattle.march.specs.Building.{operations_of};
-ghost use Rattle.march.specs.Tests.{meant};
-ghost use Rattle.sheet_writer.specs.Sheets.{operation_piece, element_line, sheet_text};
+ghost use Rattle.std.specs.Prelude.{◌≡◌, ◌≤◌, length};
+ghost use Rattle.sheet_writer.specs.Sheets.{sheet_text};
+ghost use Rattle.test_sheets.specs.Parts.{operations_text, line_text, lines_text};
 
 use march::element::Element;
 use march::test::Test;
@@ -11,7 +9,7 @@ use sheet_writer::pieces::{ENDING, heading, operation_piece};
 
 // How many bytes the operations of an element have.
 fn operations_length(element: &Element) -> usize
-    ensures length_of_operations { result ≡ length (flat_map operation_piece (operations_of (meant element.now))) }
+    ensures length_of_operations { result ≡ length (operations_text element.now) }
     ensures short_operations { result ≤ 88 }
 {
     let operations = element.operations();
@@ -22,7 +20,7 @@ fn operations_length(element: &Element) -> usize
 
 // How many bytes the line of an element has.
 fn line_length(element: &Element) -> usize
-    ensures length_of_line { result ≡ length (element_line (meant element.now)) }
+    ensures length_of_line { result ≡ length (line_text element.now) }
     ensures short_line { result ≤ 98 }
 {
     heading(element.order()).len() + operations_length(element) + ENDING.len()
@@ -31,7 +29,7 @@ fn line_length(element: &Element) -> usize
 // How many bytes the lines of elements have.
 fn lines_length(elements: &[Element]) -> usize
     requires few_elements { length elements.now ≤ 16 }
-    ensures length_of_lines { result ≡ length (flat_map element_line (map meant elements.now)) }
+    ensures length_of_lines { result ≡ length (lines_text elements.now) }
     ensures short_lines { result ≤ 1568 }
 {
     elements.iter().map(line_length).sum()

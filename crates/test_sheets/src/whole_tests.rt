@@ -1,15 +1,15 @@
 // Whole tests as sheets.
 ghost use Rattle.std.specs.Prelude.{◌≡◌, ◌+◌, ◌<◌, ◌≤◌, true, map, length, take, IfOk, MatchResult};
-ghost use Rattle.std.specs.List.{flat_map};
 ghost use Rattle.cam.specs.Buffers.{over};
 ghost use Rattle.cam.specs.Refusals.{Asks};
 ghost use Rattle.march.specs.Building.{order_of, operations_of, is_filled};
 ghost use Rattle.march.specs.Every.{every};
 ghost use Rattle.march.specs.Table.{elements_of, name_of};
 ghost use Rattle.march.specs.Tests.{meant};
-ghost use Rattle.sheet_writer.specs.Sheets.{operation_piece, element_line, sheet_text};
+ghost use Rattle.sheet_writer.specs.Sheets.{sheet_text};
 ghost use Rattle.sheet_writer.specs.Writing.{between, inside};
 ghost use Rattle.test_sheets.specs.Questions.{test_questions};
+ghost use Rattle.test_sheets.specs.Parts.{operations_text, line_text, lines_text};
 ghost use Rattle.test_sheets.specs.Pieces.{PiecesReadBack};
 ghost use Rattle.test_sheets.specs.RoundTrip.{Says, ReadsBack};
 
@@ -23,9 +23,9 @@ use sheet_writer::states::{BetweenElements, InsideElement};
 fn write_operations(state: InsideElement, element: &Element, buffer: &mut [u8]) -> InsideElement
     requires same_order { state.order ≡ order_of (meant element.now) }
     requires just_opened { state.operations ≡ 0 }
-    requires room { state.at + length (flat_map operation_piece (operations_of (meant element.now))) ≤ length buffer.old }
-    ensures operations_written { buffer.new ≡ over buffer.old state.at (flat_map operation_piece (operations_of (meant element.now))) }
-    ensures state_after { result ≡ inside (state.at + length (flat_map operation_piece (operations_of (meant element.now)))) state.order state.elements (length (operations_of (meant element.now))) }
+    requires room { state.at + length (operations_text element.now) ≤ length buffer.old }
+    ensures operations_written { buffer.new ≡ over buffer.old state.at (operations_text element.now) }
+    ensures state_after { result ≡ inside (state.at + length (operations_text element.now)) state.order state.elements (length (operations_of (meant element.now))) }
 {
     let mut state = state;
     for operation in element.operations() {
@@ -38,9 +38,9 @@ fn write_operations(state: InsideElement, element: &Element, buffer: &mut [u8]) 
 fn write_element(state: BetweenElements, element: &Element, buffer: &mut [u8]) -> BetweenElements
     requires few_elements { state.elements < 16 }
     requires some_operation { 1 ≤ length (operations_of (meant element.now)) }
-    requires room { state.at + length (element_line (meant element.now)) ≤ length buffer.old }
-    ensures line_written { buffer.new ≡ over buffer.old state.at (element_line (meant element.now)) }
-    ensures state_after { result ≡ between (state.at + length (element_line (meant element.now))) (state.elements + 1) }
+    requires room { state.at + length (line_text element.now) ≤ length buffer.old }
+    ensures line_written { buffer.new ≡ over buffer.old state.at (line_text element.now) }
+    ensures state_after { result ≡ between (state.at + length (line_text element.now)) (state.elements + 1) }
 {
     let opened = state.open(element.order(), buffer).unwrap();
     let filled = write_operations(opened, element, buffer);
@@ -55,9 +55,9 @@ fn write_elements(
 ) -> BetweenElements
     requires few_elements { state.elements + length elements.now ≤ 16 }
     requires each_filled { every is_filled (map meant elements.now) ≡ true }
-    requires room { state.at + length (flat_map element_line (map meant elements.now)) ≤ length buffer.old }
-    ensures lines_written { buffer.new ≡ over buffer.old state.at (flat_map element_line (map meant elements.now)) }
-    ensures state_after { result ≡ between (state.at + length (flat_map element_line (map meant elements.now))) (state.elements + length elements.now) }
+    requires room { state.at + length (lines_text elements.now) ≤ length buffer.old }
+    ensures lines_written { buffer.new ≡ over buffer.old state.at (lines_text elements.now) }
+    ensures state_after { result ≡ between (state.at + length (lines_text elements.now)) (state.elements + length elements.now) }
 {
     let mut state = state;
     for element in elements {
