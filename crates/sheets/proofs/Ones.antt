@@ -1,21 +1,13 @@
 -- A sheet is read in one way. Assumes nothing.
-use Rattle.std.proofs.Common.{◌≡◌, ℕ, ◌<◌, true, List, [], ◌∷◌, length, IfOk, Ok, Err, codes, Result, sym, ap, ◌∙◌, subst, arith, ◌++◌, map, ◌≤◌, leb, min, length-take}
-use Rattle.std.proofs.lemmas.List.{map-append}
-use Rattle.std.proofs.lemmas.Bool.Decides.{nat_tests}
-use lib.ListN.{length-map}
+use Rattle.std.proofs.Common.{◌≡◌, ℕ, ◌<◌, true, List, [], ◌∷◌, length, IfOk, Ok, Err, codes, Result, sym, ap, subst}
 use Rattle.std.proofs.lemmas.Bool.{cond-true}
 use Rattle.cam.specs.declared.fault.Fault.{Fault}
 use Rattle.march.specs.declared.operations.Order.{Order}
 use Rattle.cam.specs.Refusals.{Asks, ask}
 use Rattle.cam.proofs.Asking.{refused_not_0}
 use Rattle.march.specs.declared.name.Name.{Name}
-use Rattle.march.specs.declared.test.Test.{Test}
-use Rattle.march.specs.Table.{elements_of, name_of}
 use Rattle.march.specs.Names.{letters_of}
 use Rattle.march.specs.Letters.{is_name}
-use Rattle.march.specs.declared.element.Element.{Element as ElementRecord}
-use Rattle.march.specs.declared.few.Few.{Few}
-use Rattle.march.specs.Lists.{listed}
 use Rattle.march.specs.Tests as tests
 use Rattle.march.specs.Building.{opened, order_of, operations_of}
 use Rattle.words.specs.declared.token.Kind.TheVariants.{Open, LineFeed, End}
@@ -28,14 +20,14 @@ use Rattle.words.proofs.Lexemes.{measured_one, lexed_named}
 use Rattle.words.proofs.Parts.{next_one, word_next_one, name_next_one, one_of_next_one}
 use Rattle.words.proofs.Nesting.{remark_one}
 use Rattle.words.proofs.Lists.{listing_one, leaves}
-use Rattle.sheet_operations.specs.Questions.{ElementRoom, room}
+use Rattle.sheet_operations.specs.Questions.{ElementRoom}
 use Rattle.sheet_operations.specs.Operations.{OperationAt}
 use Rattle.sheet_operations.proofs.Ones.{operation_one, room_one, says_one}
 use Rattle.sheets.specs.declared.line.LineWord.{LineWord}
 use Rattle.sheets.specs.declared.line.LineWord.TheVariants.{Note, Element}
 use Rattle.sheets.specs.Elements.{Filled, Grows, Inside, ElementAt}
-use Rattle.sheets.specs.Lines.{meanings, line_spelling, line_words_differ, LineWordNext, LineBody, LineAt, Lines}
-use Rattle.sheets.specs.Sheets.{sheet_of, TitleNext, TitleLine, SheetText}
+use Rattle.sheets.specs.Lines.{line_spelling, line_words_differ, LineWordNext, LineBody, LineAt, Lines}
+use Rattle.sheets.specs.Sheets.{TitleNext, TitleLine, SheetText}
 
 grows_one : (text : List ℕ) (e : tests.Element) (t : Token) → One (Grows text e t)
 grows_one text e t =
@@ -87,14 +79,6 @@ noted text es p w a r e x = subst (λ v. LineBody text es p v a (leaving es r)) 
 pub elemental : (text : List ℕ) (es : List tests.Element) (p : ℕ) (w : LineWord) (o : Order) (a : ℕ) (r : Result (Gathered (List tests.Element)) Fault) → w ≡ Element o → ElementAt o es p text a r → LineBody text es p w a r
 elemental text es p w o a r e x = subst (λ v. LineBody text es p v a r) (sym e) x
 
--- room is asked for by the number of elements
-pub room_asked : (f : Few ElementRecord 16) (n p : ℕ) (r : Result (Unit {0}) Fault) → n ≡ length (listed f) → ElementRoom n p r → ElementRoom (length (meanings f)) p r
-room_asked f n p r e x = subst (λ n. ElementRoom n p r) (e ∙ sym (length-map (listed f) tests.meant)) x
-
--- and then there is a place for one more
-pub one_more : (f g : Few ElementRecord 16) (x : ElementRecord) (p : ℕ) → ElementRoom (length (meanings f)) p (Ok tt) → (length (listed f) < 16 → listed g ≡ listed f ++ (x ∷ [])) → meanings g ≡ meanings f ++ (tests.meant x ∷ [])
-one_more f g x p (room h) grown = ap (map tests.meant) (grown (omega (arith, length-map (listed f) tests.meant))) ∙ map-append tests.meant (listed f) (x ∷ [])
-
 -- a line whose line feed comes next: its elements, the text as the cursor still has it, and the place
 pub record Unended (text : List ℕ) (es : List tests.Element) (p : ℕ) (w : LineWord) (a : ℕ) (fs : List tests.Element) (same : List ℕ) (e : ℕ) : Type 0 where
   pub text_stays : same ≡ text
@@ -108,14 +92,3 @@ name_allowed (on l (named k)) = lexed_named l k
 pub named_so : {w : List ℕ} (r : Result Name Fault) → is_name w ≡ true → Asks (ask (is_name w) 63 ∷ []) r → IfOk r (λ n. letters_of n ≡ w) → result_map letters_of r ≡ Ok w
 named_so (Ok n) allowed asks is = ap (λ w. Ok w) is
 named_so (Err f) allowed asks is = absurd (refused_not_0 _ f asks (cond-true _ 0 63 allowed))
-
-few_listed : (f : Few ElementRecord 16) → length (listed f) ≤ 16
-few_listed f = omega (arith, length-take (min f.count 16) f.items)
-
--- the elements that were read make a test
-pub made_so : (r : Result Test Fault) (n : Name) (f : Few ElementRecord 16) (es : List ElementRecord) → es ≡ listed f → Asks (ask (leb (length es) 16) 31 ∷ []) r → IfOk r (λ t. elements_of t ≡ map tests.meant es) → IfOk r (λ t. name_of t ≡ letters_of n) → sheet_of r ≡ Ok (record { name = letters_of n; elements = meanings f })
-made_so (Ok t) n f es e asks these its = cc
-made_so (Err g) n f es e asks these its =
-    let h = few_listed f in
-    let fits : leb (length es) 16 ≡ true = grind (arith, nat_tests) in
-    absurd (refused_not_0 _ g asks (cond-true _ 0 31 fits))

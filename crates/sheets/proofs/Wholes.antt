@@ -1,5 +1,5 @@
 -- A sheet that is read is a whole test: 1 to 16 elements of 1 to 8 operations. Assumes nothing.
-use Rattle.std.proofs.Common.{◌≡◌, ℕ, ◌+◌, ◌<◌, ◌≤◌, Bool, true, leb, List, [], ◌∷◌, ◌++◌, length, IfOk, Ok, Err, Result, sym, refl, ap, subst, arith, length-append}
+use Rattle.std.proofs.Common.{◌≡◌, ℕ, ◌+◌, ◌<◌, ◌≤◌, Bool, true, leb, List, [], ◌∷◌, ◌++◌, length, Ok, sym, refl, ap, subst, arith, length-append}
 use lib.ListN.{length-map}
 use Rattle.std.proofs.lemmas.Bool.Decides.{nat_tests}
 use Rattle.std.proofs.lemmas.Bool.{and_parts}
@@ -7,7 +7,6 @@ use Rattle.march.specs.declared.element.TestOperation.{TestOperation}
 use Rattle.march.specs.declared.element.TestOperation.TheVariants as operation
 use Rattle.march.specs.declared.operations.Order.{Order}
 use Rattle.march.specs.declared.operations.Order.TheVariants.{Up, Down, Columns}
-use Rattle.cam.specs.declared.fault.Fault.{Fault}
 use Rattle.march.specs.declared.test.Test.{Test}
 use Rattle.march.specs.Table.{elements_of}
 use Rattle.march.specs.Every.{every}
@@ -23,7 +22,7 @@ use Rattle.sheets.specs.declared.line.LineWord.{LineWord}
 use Rattle.sheets.specs.declared.line.LineWord.TheVariants.{Note, Element}
 use Rattle.sheets.specs.Elements.{Grows, Inside, ElementAt}
 use Rattle.sheets.specs.Lines.{LineBody, LineAt, Lines}
-use Rattle.sheets.specs.Sheets.{Sheet, SheetText, sheet_of}
+use Rattle.sheets.specs.Sheets.{SheetText, sheet_of}
 
 longer_few : (e : tests.Element) (o : TestOperation) → length (operations_of (longer e o)) ≤ length (operations_of e) + 1
 longer_few (up os) o = omega (arith, length-append os (o ∷ []))
@@ -90,10 +89,6 @@ lines_whole : (text : List ℕ) (es : List tests.Element) (a : ℕ) (g : Gathere
 lines_whole text es a _ (shut x k some) good = whole es some good
 lines_whole text es a g (more {t} {y} x k p rest) good = lines_whole text y.value y.to g rest (line_good text es t.from t.to y p good)
 
-pub sheet_whole : (text : List ℕ) (s : Sheet) → SheetText text (Ok s) → is_whole s.elements ≡ true
-sheet_whole text s (on {x = h} _ (on {x = g} lines (on _ (on _ q)))) =
-    subst (λ s. is_whole s.elements ≡ true) (sym (same_ok s _ q)) (lines_whole text [] h.to g lines (record { few = omega arith; all = refl }))
-
-pub whole_so : {text : List ℕ} (r : Result Test Fault) → SheetText text (sheet_of r) → IfOk r (λ t. is_whole (elements_of t) ≡ true)
-whole_so {text} (Ok t) x = sheet_whole text _ x
-whole_so (Err f) x = tt
+pub sheet_whole : {text : List ℕ} (t : Test) → SheetText text (sheet_of (Ok t)) → is_whole (elements_of t) ≡ true
+sheet_whole {text} t (on {x = h} _ (on {x = g} lines (on _ (on _ q)))) =
+    subst (λ s. is_whole s.elements ≡ true) (sym (same_ok _ _ q)) (lines_whole text [] h.to g lines (record { few = omega arith; all = refl }))

@@ -1,10 +1,7 @@
 -- The grammar of the lines of a sheet: elements and remarks, each with its line feed.
-use Rattle.std.specs.Prelude.{◌≡◌, ℕ, ◌<◌, cond, ◌==◌, List, map, length, Ok, codes, Result, slice_index, refl}
+use Rattle.std.specs.Prelude.{◌≡◌, ℕ, ◌<◌, cond, ◌==◌, List, length, Ok, codes, Result, slice_index, refl}
 use Rattle.cam.specs.declared.fault.Fault.{Fault}
 use Rattle.march.specs.declared.operations.Order.TheVariants.{Up, Down, Columns}
-use Rattle.march.specs.declared.element.Element.{Element as ElementRecord}
-use Rattle.march.specs.declared.few.Few.{Few}
-use Rattle.march.specs.Lists.{listed}
 use Rattle.march.specs.Tests as tests
 use Rattle.words.specs.declared.token.Kind.TheVariants.{LineFeed}
 use Rattle.words.specs.Readings.{Then}
@@ -55,7 +52,3 @@ LineAt text es p a =
 -- after the elements es, what follows at `a` gives: lines, up to the sheet's closing bracket. A sheet has an element.
 abbrev pub Lines : List ℕ → List tests.Element → ℕ → Result (Gathered (List tests.Element)) Fault → Type 0
 Lines text = Listing (λ es. 0 < length es) (λ es t. LineAt text es t.from t.to) text
-
--- the elements of a short list
-abbrev pub meanings : Few ElementRecord 16 → List tests.Element
-meanings f = map tests.meant (listed f)

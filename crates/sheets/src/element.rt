@@ -1,33 +1,56 @@
 // An element of a sheet, from after the word of its order on.
 ghost use Rattle.std.specs.Prelude.{◌≡◌, ◌≤◌};
-ghost use Rattle.march.specs.Tests.{meant};
-ghost use Rattle.march.specs.Building.{opened};
-ghost use Rattle.words.specs.Readings.{Reading, come_to, result_map};
-ghost use Rattle.sheets.specs.Elements.{Inside};
+ghost use Rattle.march.specs.Table.{elements_of, name_of};
+ghost use Rattle.words.specs.Readings.{Reading, reached, leaving};
+ghost use Rattle.sheets.specs.Elements.{ElementAt, last_count};
 
-use cam::fault::Fault;
+use cam::fault::{Fault, Reason};
 use march::element::Element;
 use march::operations::Order;
+use march::test::Test;
 use sheet_operations::operation::read_operation;
+use sheet_operations::question::check_room;
 use words::cursor::Cursor;
 use words::form::not_wanted;
 use words::token::Kind;
 
-// Reads the operations of an element of this order, up to its closing bracket.
-pub(crate) fn read_element(cursor: &mut Cursor, order: Order) -> Result<Element, Fault>
-    ensures reading { Reading (Inside cursor.old.text.now (opened order) cursor.old.at) (come_to cursor.new.at (result_map meant result)) }
+const MOST_ELEMENTS: u8 = 16;
+
+// How many operations the last element of a test has, and 0 where it has no element.
+fn last_operation_count(test: &Test) -> u8
+    ensures operations_of_the_last { result ≡ last_count (elements_of test.now) }
+{
+    test.elements().last().map_or(0, Element::operation_count)
+}
+
+// Reads an element, of which the bracket at this place and the word of its order were read, up to its closing bracket.
+// It becomes the last element of the test, and each of its operations goes to it through the test.
+pub(crate) fn read_element(
+    cursor: &mut Cursor,
+    order: Order,
+    bracket: usize,
+    test: &mut Test,
+) -> Result<(), Fault>
+    ensures reading { Reading (ElementAt order (elements_of test.old) bracket cursor.old.text.now cursor.old.at) (leaving (elements_of test.new) (reached cursor.new.at result)) }
+    ensures name_stays { name_of test.new ≡ name_of test.old }
     ensures text_stays { cursor.new.text.now ≡ cursor.old.text.now }
     ensures goes_on { cursor.old.at ≤ cursor.new.at }
 {
-    let mut element = Element::opened(order);
+    check_room(
+        test.element_count(),
+        MOST_ELEMENTS,
+        Reason::TooManyElements,
+        bracket,
+    )?;
+    test.add_element(order)?;
     loop {
         let token = cursor.next_token()?;
+        let count = last_operation_count(test);
         match token.kind {
-            Kind::Close if element.operation_count() > 0 => return Ok(element),
+            Kind::Close if count > 0 => return Ok(()),
             Kind::Open => {
-                let count = element.operation_count();
                 let operation = read_operation(cursor, token.from, order, count)?;
-                element.add(operation)?;
+                test.add_operation(operation)?;
             }
             _ => return Err(not_wanted(token.from)),
         }

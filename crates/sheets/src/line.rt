@@ -1,19 +1,16 @@
 // The lines of a sheet: elements and remarks, each with its line feed.
-ghost use Rattle.std.specs.Prelude.{◌≡◌, ◌≤◌, []};
-ghost use Rattle.words.specs.Readings.{Reading, come_to, reached, leaving, result_map};
-ghost use Rattle.sheets.specs.Lines.{line_spelling, LineAt, Lines, meanings};
+ghost use Rattle.std.specs.Prelude.{◌≡◌, ◌≤◌};
+ghost use Rattle.march.specs.Table.{elements_of, name_of};
+ghost use Rattle.words.specs.Readings.{Reading, reached, leaving};
+ghost use Rattle.sheets.specs.Lines.{line_spelling, LineAt, Lines};
 
 use crate::element::read_element;
-use cam::fault::{Fault, Reason};
-use march::element::Element;
-use march::few::Few;
+use cam::fault::Fault;
 use march::operations::Order;
-use sheet_operations::question::check_room;
+use march::test::Test;
 use words::cursor::Cursor;
 use words::form::{Spelled, not_wanted};
 use words::token::Kind;
-
-const MOST_ELEMENTS: u8 = 16;
 
 // The word that a line begins with.
 #[derive(Clone, Copy)]
@@ -40,44 +37,33 @@ impl Spelled for LineWord {
     }
 }
 
-// Reads the line whose bracket was read, at this place, up to its line feed. An element goes to the others.
-fn read_line(
-    cursor: &mut Cursor,
-    bracket: usize,
-    elements: &mut Few<Element, 16>,
-) -> Result<(), Fault>
-    ensures reading { Reading (LineAt cursor.old.text.now (meanings elements.old) bracket cursor.old.at) (leaving (meanings elements.new) (reached cursor.new.at result)) }
+// Reads the line whose bracket was read, at this place, up to its line feed. An element goes into the test.
+fn read_line(cursor: &mut Cursor, bracket: usize, test: &mut Test) -> Result<(), Fault>
+    ensures reading { Reading (LineAt cursor.old.text.now (elements_of test.old) bracket cursor.old.at) (leaving (elements_of test.new) (reached cursor.new.at result)) }
+    ensures name_stays { name_of test.new ≡ name_of test.old }
     ensures text_stays { cursor.new.text.now ≡ cursor.old.text.now }
     ensures goes_on { cursor.old.at ≤ cursor.new.at }
 {
     match cursor.one_of()? {
         LineWord::Note => cursor.outermost_remark()?,
-        LineWord::Element(order) => {
-            check_room(
-                elements.len(),
-                MOST_ELEMENTS,
-                Reason::TooManyElements,
-                bracket,
-            )?;
-            elements.push(read_element(cursor, order)?);
-        }
+        LineWord::Element(order) => read_element(cursor, order, bracket, test)?,
     }
     cursor.want(Kind::LineFeed)
 }
 
-// Reads the lines of a sheet, up to the sheet's closing bracket. A loop of its own, like an element's: a shared one would
-// take what a line adds as a closure, and what the lines mean could no longer stand in its invariant.
-pub(crate) fn read_lines(cursor: &mut Cursor) -> Result<Few<Element, 16>, Fault>
-    ensures reading { Reading (Lines cursor.old.text.now [] cursor.old.at) (come_to cursor.new.at (result_map meanings result)) }
+// Reads the lines of a sheet into the test, up to the sheet's closing bracket. A loop of its own, like an element's: a
+// shared one would take what a line adds as a closure, and what the lines mean could no longer stand in its invariant.
+pub(crate) fn read_lines(cursor: &mut Cursor, test: &mut Test) -> Result<(), Fault>
+    ensures reading { Reading (Lines cursor.old.text.now (elements_of test.old) cursor.old.at) (leaving (elements_of test.new) (reached cursor.new.at result)) }
+    ensures name_stays { name_of test.new ≡ name_of test.old }
     ensures text_stays { cursor.new.text.now ≡ cursor.old.text.now }
     ensures goes_on { cursor.old.at ≤ cursor.new.at }
 {
-    let mut elements = Few::default();
     loop {
         let token = cursor.next_token()?;
         match token.kind {
-            Kind::Close if elements.len() > 0 => return Ok(elements),
-            Kind::Open => read_line(cursor, token.from, &mut elements)?,
+            Kind::Close if test.element_count() > 0 => return Ok(()),
+            Kind::Open => read_line(cursor, token.from, test)?,
             _ => return Err(not_wanted(token.from)),
         }
     }

@@ -34,8 +34,9 @@ pub fn read_sheet(text: &[u8]) -> Result<Test, Fault>
     check_length(text)?;
     let mut cursor = Cursor::new(text);
     let name = read_title(&mut cursor)?;
-    let elements = read_lines(&mut cursor)?;
+    let mut test = Test::named(name);
+    read_lines(&mut cursor, &mut test)?;
     cursor.want(Kind::LineFeed)?;
     cursor.want(Kind::End)?;
-    Test::with_elements(name, elements.as_slice())
+    Ok(test)
 }

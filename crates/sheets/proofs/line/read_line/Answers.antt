@@ -1,11 +1,11 @@
-use Rattle.std.proofs.Common.{refl, ◌∙◌}
+use Rattle.std.proofs.Common.{◌∙◌}
+use Rattle.march.specs.Table.{elements_of}
 use Rattle.words.specs.Readings.{on, off}
 use Rattle.words.proofs.Rules.{pinned, same_fault}
 use Rattle.words.proofs.Lists.{leaves}
-use Rattle.sheets.specs.Lines.{meanings}
-use Rattle.sheets.proofs.Ones.{line_one, noted, elemental, room_asked, one_more, Unended}
+use Rattle.sheets.proofs.Ones.{line_one, noted, elemental, Unended}
 use Rattle.sheets.proofs.line.read_line.Goals as goal
-use Rattle.sheets.proofs.line.read_line.Goals.{in-Note+in_ok-outermost_remark-in-Note, in-Element+in_ok-check_room-in-Element+in_ok-read_element-in-Element}
+use Rattle.sheets.proofs.line.read_line.Goals.{in-Note+in_ok-outermost_remark-in-Note, in-Element+in_ok-read_element-in-Element}
 
 pub returns-in_err-one_of-clause-reading : goal.returns-in_err-one_of-clause-reading
 returns-in_err-one_of-clause-reading c =
@@ -17,28 +17,17 @@ returns-in_err-outermost_remark-in-Note-clause-reading c =
     let m = rw l.text_stays at c.in_err-outermost_remark-in-Note.ensures.reading.reads in
     rw (same_fault _ c.from_residual-in_err-outermost_remark-in-Note.ensures.1) (pinned (line_one _ _ _ _) (on l.reading.reads (off (noted _ _ _ _ _ _ c.in-Note.is m))))
 
-pub returns-in_err-check_room-in-Element-clause-reading : goal.returns-in_err-check_room-in-Element-clause-reading
-returns-in_err-check_room-in-Element-clause-reading c =
-    let l = c.in_ok-one_of.ensures in
-    let m = room_asked c.args.elements.now _ _ _ c.len.ensures.item_count c.in_err-check_room-in-Element.ensures.reading.reads in
-    rw (same_fault _ c.from_residual-in_err-check_room-in-Element.ensures.1) (pinned (line_one _ _ _ _) (on l.reading.reads (off (elemental _ _ _ _ _ _ _ c.in-Element.is (off m)))))
-
 pub returns-in_err-read_element-in-Element-clause-reading : goal.returns-in_err-read_element-in-Element-clause-reading
 returns-in_err-read_element-in-Element-clause-reading c =
     let l = c.in_ok-one_of.ensures in
-    let m = room_asked c.args.elements.now _ _ _ c.len.ensures.item_count c.in_ok-check_room-in-Element.ensures.reading.reads in
     let e = rw l.text_stays at c.in_err-read_element-in-Element.ensures.reading.reads in
-    rw (same_fault _ c.from_residual-in_err-read_element-in-Element.ensures.1) (pinned (line_one _ _ _ _) (on l.reading.reads (off (elemental _ _ _ _ _ _ _ c.in-Element.is (on m (off e))))))
+    rw (same_fault _ c.from_residual-in_err-read_element-in-Element.ensures.1) (pinned (line_one _ _ _ _) (on l.reading.reads (off (elemental _ _ _ _ _ _ _ c.in-Element.is e))))
 
 pub returns-clause-reading : goal.returns-clause-reading
 returns-clause-reading c =
     let l = c.in_ok-one_of.ensures in
-    let u : Unended c.args.cursor.now.text.now (meanings c.args.elements.now) c.args.bracket c.in_ok-one_of.field-0 c.one_of.new.self.at (meanings c.match-branch-2.elements) c.match-branch-2.cursor.text.now c.match-branch-2.cursor.at = elim c.match-branch-2.branch [
-      | in-Note+in_ok-outermost_remark-in-Note w ↦ (let r = w.in_ok-outermost_remark-in-Note.ensures in rw (w.cursor-is, w.elements-is) (record { text_stays = r.text_stays ∙ l.text_stays; body = noted _ _ _ _ _ _ w.in-Note.is (rw l.text_stays at r.reading.reads) }))
-      | in-Element+in_ok-check_room-in-Element+in_ok-read_element-in-Element w ↦ (
-          let r = w.in_ok-read_element-in-Element.ensures in
-          let m = room_asked c.args.elements.now _ _ _ w.len.ensures.item_count w.in_ok-check_room-in-Element.ensures.reading.reads in
-          let grown = one_more c.args.elements.now w.push.new.self _ _ m w.push.ensures.one_more_at_the_end in
-          rw (w.cursor-is, w.elements-is, grown) (record { text_stays = r.text_stays ∙ l.text_stays; body = elemental _ _ _ _ _ _ _ w.in-Element.is (on m (on (rw l.text_stays at r.reading.reads) refl)) }))
+    let u : Unended c.args.cursor.now.text.now (elements_of c.args.test.now) c.args.bracket c.in_ok-one_of.field-0 c.one_of.new.self.at (elements_of c.match-branch-2.test) c.match-branch-2.cursor.text.now c.match-branch-2.cursor.at = elim c.match-branch-2.branch [
+      | in-Note+in_ok-outermost_remark-in-Note w ↦ (let r = w.in_ok-outermost_remark-in-Note.ensures in rw (w.cursor-is, w.test-is) (record { text_stays = r.text_stays ∙ l.text_stays; body = noted _ _ _ _ _ _ w.in-Note.is (rw l.text_stays at r.reading.reads) }))
+      | in-Element+in_ok-read_element-in-Element w ↦ (let r = w.in_ok-read_element-in-Element.ensures in rw (w.cursor-is, w.test-is) (record { text_stays = r.text_stays ∙ l.text_stays; body = elemental _ _ _ _ _ _ _ w.in-Element.is (rw l.text_stays at r.reading.reads) }))
     ] in
     pinned (line_one _ _ _ _) (on l.reading.reads (on u.body (leaves _ _ _ (rw u.text_stays at c.want.ensures.reading.reads))))

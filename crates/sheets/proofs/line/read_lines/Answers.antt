@@ -1,12 +1,9 @@
 use Rattle.std.proofs.Common.{◌∙◌, arith}
-use lib.ListN.{length-map}
-use Rattle.march.specs.Lists.{listed}
-use Rattle.march.specs.Tests.{meant}
 use Rattle.words.specs.Listings.{shut, more, lexed, too_few, other, piece}
 use Rattle.words.proofs.Rules.{pinned, same_fault}
 use Rattle.sheets.proofs.Ones.{lines_one}
 use Rattle.sheets.proofs.line.read_lines.Goals as goal
-use Rattle.sheets.proofs.line.read_lines.Goals.{in_default-via-in-Close+else-len-gt0, in_default-via-in_default}
+use Rattle.sheets.proofs.line.read_lines.Goals.{in_default-via-in-Close+else-element_count-gt0, in_default-via-in_default}
 
 pub returns-in_err-token-clause-reading : goal.returns-in_err-token-clause-reading
 returns-in_err-token-clause-reading c =
@@ -18,8 +15,8 @@ pub returns-in-Close-clause-reading : goal.returns-in-Close-clause-reading
 returns-in-Close-clause-reading c =
     let i = c.loop-token.invariant in
     let x = rw i.text_stays at c.in_ok-token.ensures.reading.reads in
-    let n = c.len.ensures.item_count in
-    pinned (lines_one _ _ _) (i.rest _ (shut x c.in-Close.is (omega (arith, length-map (listed c.loop-token.elements) meant, c.if-len-gt0.true))))
+    let n = c.element_count.ensures.how_many_elements in
+    pinned (lines_one _ _ _) (i.rest _ (shut x c.in-Close.is (omega (arith, n, c.if-element_count-gt0.true))))
 
 pub returns-in_err-read_line-in-Open-clause-reading : goal.returns-in_err-read_line-in-Open-clause-reading
 returns-in_err-read_line-in-Open-clause-reading c =
@@ -38,6 +35,7 @@ loop-token-preserved c =
     record {
       text_stays = c.in_ok-read_line-in-Open.ensures.text_stays ∙ t.text_stays ∙ i.text_stays;
       goes_on = omega (arith, i.goes_on, t.goes_on, c.in_ok-read_line-in-Open.ensures.goes_on);
+      name_stays = c.in_ok-read_line-in-Open.ensures.name_stays ∙ i.name_stays;
       rest = λ r z. i.rest r (more x c.in-Open.is l z);
     }
 
@@ -48,6 +46,6 @@ returns-in_default-clause-reading c =
     let x = rw i.text_stays at t.reading.reads in
     rw c.not_wanted.ensures.not_wanted_there
     (pinned (lines_one _ _ _) (i.rest _ (elim c.in_default.branch [
-      | in_default-via-in-Close+else-len-gt0 w ↦ (let n = w.len.ensures.item_count in too_few x w.in-Close.is (λ some. omega (arith, length-map (listed c.loop-token.elements) meant, w.if-len-gt0.false)))
+      | in_default-via-in-Close+else-element_count-gt0 w ↦ (let n = w.element_count.ensures.how_many_elements in too_few x w.in-Close.is (λ some. omega (arith, n, w.if-element_count-gt0.false)))
       | in_default-via-in_default w ↦ other x w.in_default.not-Close w.in_default.not-Open
     ])))

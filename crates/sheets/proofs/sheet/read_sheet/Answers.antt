@@ -1,7 +1,10 @@
+use Rattle.std.proofs.Common.{Ok, ap, ◌∙◌}
+use Rattle.march.specs.Table.{elements_of}
 use Rattle.words.specs.Readings.{on, off}
 use Rattle.words.proofs.Rules.{pinned, same_fault}
-use Rattle.sheets.proofs.Ones.{sheet_one, made_so}
-use Rattle.sheets.proofs.Wholes.{whole_so}
+use Rattle.sheets.specs.Sheets.{sheet_of}
+use Rattle.sheets.proofs.Ones.{sheet_one}
+use Rattle.sheets.proofs.Wholes.{sheet_whole}
 use Rattle.sheets.proofs.sheet.read_sheet.Goals as goal
 
 pub returns-in_err-check_length-clause-reading : goal.returns-in_err-check_length-clause-reading
@@ -15,14 +18,14 @@ returns-in_err-name-clause-reading c =
     let h = rw (n.whole_text, n.at_the_front) at c.in_err-name.ensures.reading.reads in
     rw (same_fault _ c.from_residual-in_err-name.ensures.1) (pinned (sheet_one _) (off (on k h)))
 
-pub returns-in_err-elements-clause-reading : goal.returns-in_err-elements-clause-reading
-returns-in_err-elements-clause-reading c =
+pub returns-in_err-read_lines-clause-reading : goal.returns-in_err-read_lines-clause-reading
+returns-in_err-read_lines-clause-reading c =
     let k = c.in_ok-check_length.ensures.reading.reads in
     let n = c.new-cursor.ensures in
     let t = c.in_ok-name.ensures in
     let h = rw (n.whole_text, n.at_the_front) at t.reading.reads in
-    let b = rw (t.text_stays, n.whole_text) at c.in_err-elements.ensures.reading.reads in
-    rw (same_fault _ c.from_residual-in_err-elements.ensures.1) (pinned (sheet_one _) (on (on k h) (off b)))
+    let b = rw (t.text_stays, n.whole_text, c.named-test.ensures.no_element) at c.in_err-read_lines.ensures.reading.reads in
+    rw (same_fault _ c.from_residual-in_err-read_lines.ensures.1) (pinned (sheet_one _) (on (on k h) (off b)))
 
 pub returns-in_err-want-clause-reading : goal.returns-in_err-want-clause-reading
 returns-in_err-want-clause-reading c =
@@ -30,8 +33,8 @@ returns-in_err-want-clause-reading c =
     let n = c.new-cursor.ensures in
     let t = c.in_ok-name.ensures in
     let h = rw (n.whole_text, n.at_the_front) at t.reading.reads in
-    let l = c.in_ok-elements.ensures in
-    let b = rw (t.text_stays, n.whole_text) at l.reading.reads in
+    let l = c.in_ok-read_lines.ensures in
+    let b = rw (t.text_stays, n.whole_text, c.named-test.ensures.no_element) at l.reading.reads in
     let e = rw (l.text_stays, t.text_stays, n.whole_text) at c.in_err-want.ensures.reading.reads in
     rw (same_fault _ c.from_residual-in_err-want.ensures.1) (pinned (sheet_one _) (on (on k h) (on b (off e))))
 
@@ -41,8 +44,8 @@ returns-in_err-want-2-clause-reading c =
     let n = c.new-cursor.ensures in
     let t = c.in_ok-name.ensures in
     let h = rw (n.whole_text, n.at_the_front) at t.reading.reads in
-    let l = c.in_ok-elements.ensures in
-    let b = rw (t.text_stays, n.whole_text) at l.reading.reads in
+    let l = c.in_ok-read_lines.ensures in
+    let b = rw (t.text_stays, n.whole_text, c.named-test.ensures.no_element) at l.reading.reads in
     let f = c.in_ok-want.ensures in
     let e = rw (l.text_stays, t.text_stays, n.whole_text) at f.reading.reads in
     let g = rw (f.text_stays, l.text_stays, t.text_stays, n.whole_text) at c.in_err-want-2.ensures.reading.reads in
@@ -54,12 +57,12 @@ returns c =
     let n = c.new-cursor.ensures in
     let t = c.in_ok-name.ensures in
     let h = rw (n.whole_text, n.at_the_front) at t.reading.reads in
-    let l = c.in_ok-elements.ensures in
-    let b = rw (t.text_stays, n.whole_text) at l.reading.reads in
+    let l = c.in_ok-read_lines.ensures in
+    let b = rw (t.text_stays, n.whole_text, c.named-test.ensures.no_element) at l.reading.reads in
     let f = c.in_ok-want.ensures in
     let e = rw (l.text_stays, t.text_stays, n.whole_text) at f.reading.reads in
     let g = rw (f.text_stays, l.text_stays, t.text_stays, n.whole_text) at c.in_ok-want-2.ensures.reading.reads in
-    let w = c.with_elements.ensures in
-    let made = made_so c.with_elements.result c.in_ok-name.name c.in_ok-elements.elements c.as_slice.result.now c.as_slice.ensures.all_items w.asks_room w.these_elements w.its_name in
-    let x = on (on k h) (on b (on e (on g made))) in
-    record { reading = pinned (sheet_one _) x; whole_test = whole_so _ x }
+    let named = l.name_stays ∙ c.named-test.ensures.its_name in
+    let made = ap (λ n. Ok (record { name = n; elements = elements_of c.read_lines.new.test })) named in
+    let z = on (on k h) (on b (on e (on g made))) in
+    record { reading = pinned {r = sheet_of (Ok c.read_lines.new.test)} (sheet_one _) z; whole_test = sheet_whole c.read_lines.new.test z }
