@@ -25,6 +25,7 @@ fn numeral_value(word: &[u8]) -> Option<u16>
     if word.len() > MOST_DIGITS {
         return None;
     }
+    // a loop, since of the value that a fold hands on it stayed open that ten times it fits
     let mut value: u16 = 0;
     for byte in word {
         if !byte.is_ascii_digit() {

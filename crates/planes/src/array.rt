@@ -7,7 +7,7 @@ use cam::fault::Fault;
 use cam::size::Size;
 
 // An array over the caller's records, which it keeps until `into_records`. It uses one for each word, the first ones: the
-// caller may hand over more, and gets them all back.
+// caller may hand over more and gets them all back, so the number of words stands beside them.
 #[derive(Drop)]
 pub struct PlaneArray {
     pub(crate) records: Vec<WordRecord>,

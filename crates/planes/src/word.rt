@@ -82,7 +82,7 @@ impl WordRecord {
             | (held & ((pattern & self.wrong11) | (!pattern & self.wrong10)))
     }
 
-    // How a column stores.
+    // How a column stores. A chain of tests, since the first plane that has the column counts.
     pub(crate) fn storage(&self, column: ColumnIndex) -> Storage
         ensures storage_of_column { result ≡ storage_of self.now column.number }
     {
@@ -151,6 +151,7 @@ impl WordRecord {
         ensures stuck_stays { self.new.stuck ≡ self.old.stuck }
     {
         let single = 1u64 << column.number;
+        // a plane to write, where `WrongSet::contains` reads a flag
         match (pair.held, pair.comparand) {
             (false, false) => self.wrong00 |= single,
             (false, true) => self.wrong01 |= single,
