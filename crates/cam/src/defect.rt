@@ -3,7 +3,8 @@ ghost use Rattle.std.specs.Prelude.{◌≡◌, Bool};
 ghost use Rattle.cam.specs.Model.{agrees};
 ghost use Rattle.cam.specs.Defects.{in_set, response, storage_with};
 
-// How a cell stores: good; always 0 or always 1; holding 0 it does not rise, holding 1 it does not fall.
+// How a cell stores: good; always 0 or always 1; holding 0 it does not rise, holding 1 it does not fall. Good is a case
+// and not the `None` of an `Option` of a defect, which would make each of the many matches on it a step deeper.
 #[derive(Clone, Copy, PartialEq, Eq)]
 pub enum Storage {
     Good,

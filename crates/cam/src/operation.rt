@@ -25,7 +25,8 @@ pub enum Operation {
     },
 }
 
-// What an operation answers: a write and an erase nothing, a read the held bits, a compare the hit.
+// What an operation answers: a write and an erase nothing, a read the held bits, a compare the hit. Not an `Option`, since
+// answers have numbers, one a case.
 #[derive(Clone, Copy)]
 pub enum Answer {
     Nothing,

@@ -1,5 +1,5 @@
 // How large an array is.
-ghost use Rattle.std.specs.Prelude.{◌≡◌, ◌*◌};
+ghost use Rattle.std.specs.Prelude.{◌≡◌, ◌*◌, ◌&&◌, nat_le};
 
 use crate::array::CamArray;
 
@@ -10,7 +10,20 @@ pub struct Size {
     pub width: u8,
 }
 
+// The size of the largest array.
+pub const LARGEST: Size = Size {
+    words: 256,
+    width: 64,
+};
+
 impl Size {
+    // Whether there is a word and a bit, and no more of either than `most` has.
+    pub fn is_within(self, most: Size) -> bool
+        ensures some_and_no_more { result ≡ ((nat_le 1 self.words && nat_le self.words most.words) && (nat_le 1 self.width && nat_le self.width most.width)) }
+    {
+        (1..=most.words).contains(&self.words) && (1..=most.width).contains(&self.width)
+    }
+
     // How many cells there are.
     pub fn cells(self) -> u32
         ensures words_times_bits { result ≡ self.words * self.width }

@@ -8,6 +8,12 @@ use cam::size::Size;
 use planes::array::NotMade;
 use planes::word::WordRecord;
 
+// The largest array of a campaign.
+const LARGEST: Size = Size {
+    words: 16,
+    width: 16,
+};
+
 // Records for arrays of 1 to 16 words of 1 to 16 bits, one for each word at least.
 #[derive(Drop)]
 pub(crate) struct CampaignRecords {
@@ -27,7 +33,7 @@ impl CampaignRecords {
         ensures these_records { MatchResult result (λ own. own.records ≡ records) (λ e. e.records ≡ records) }
         ensures this_size { IfOk result (λ own. own.size ≡ size) }
     {
-        let reason = if !(1..=16).contains(&size.words) || !(1..=16).contains(&size.width) {
+        let reason = if !size.is_within(LARGEST) {
             Reason::CampaignTooLarge
         } else if records.len() < size.words as usize {
             Reason::BufferTooShort

@@ -7,7 +7,7 @@ ghost use Rattle.cam.specs.Refusals.{Asks, AsksIn, ask};
 use crate::mark::Mark;
 use cam::fault::{Fault, Reason};
 use cam::index::WordIndex;
-use cam::size::Size;
+use cam::size::{LARGEST, Size};
 use cells::kind::CellKind;
 
 // An array over lent cells: cell (a, j) stands at a × width + j. The marks and the tally are its own, room for the marks
@@ -52,7 +52,7 @@ impl<'a, C: CellKind> CellField<'a, C> {
         ensures made_of_the_cells { MatchResult result (λ f. field_build C.meaning f ≡ build_from size.words size.width (map C.meaning cells.old) []) (λ e. e.cells.now ≡ cells.old) }
         ensures marks_clear { MatchResult result (λ f. field_state C.meaning f ≡ state_from size.words size.width (map C.meaning cells.old) [] 0) (λ e. e.cells.now ≡ cells.old) }
     {
-        if !(1..=256).contains(&size.words) || !(1..=64).contains(&size.width) {
+        if !size.is_within(LARGEST) {
             return Err(NotMade {
                 cells,
                 fault: Fault::of_call(Reason::SizeOutsideLimits),

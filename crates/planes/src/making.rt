@@ -7,7 +7,7 @@ ghost use Rattle.planes.specs.Planes.{build_of, state_of, blanked};
 use crate::array::{NotMade, PlaneArray};
 use crate::word::WordRecord;
 use cam::fault::{Fault, Reason};
-use cam::size::Size;
+use cam::size::{LARGEST, Size};
 
 // Blanks the first `count` records.
 fn blank_first(records: &mut [WordRecord], count: usize)
@@ -27,7 +27,7 @@ impl PlaneArray {
         ensures made_cleared { MatchResult result (λ p. state_of p ≡ cleared) (λ e. e.records ≡ records) }
         ensures later_records_stay { MatchResult result (λ p. p.records.items ≡ blanked size.words records.items) (λ e. e.records ≡ records) }
     {
-        if !(1..=256).contains(&size.words) || !(1..=64).contains(&size.width) {
+        if !size.is_within(LARGEST) {
             return Err(NotMade {
                 records,
                 fault: Fault::of_call(Reason::SizeOutsideLimits),
