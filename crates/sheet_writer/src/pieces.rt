@@ -1,7 +1,7 @@
 // The pieces of a sheet, and whether one fits.
-ghost use Rattle.std.specs.Prelude.{◌≡◌, [], ◌∷◌};
+ghost use Rattle.std.specs.Prelude.{◌≡◌, [], ◌∷◌, nat_lt};
 ghost use Rattle.cam.specs.Refusals.{Asks, ask};
-ghost use Rattle.sheet_writer.specs.Sheets.{heading, compare_piece, operation_piece};
+ghost use Rattle.sheet_writer.specs.Sheets.{heading, compare_piece, operation_piece, ending};
 ghost use Rattle.sheet_writer.specs.Writing.{fits};
 
 use cam::fault::{Fault, Reason};
@@ -17,6 +17,17 @@ pub(crate) fn ask_room(buffer: &[u8], at: usize, piece: &[u8]) -> Result<(), Fau
 {
     if at > buffer.len() || piece.len() > buffer.len() - at {
         return Err(Fault::of_call(Reason::PieceDoesNotFit));
+    }
+    Ok(())
+}
+
+// Before an ending: does it fit (61), and is something inside what it ends (62)?
+pub(crate) fn ask_ending(buffer: &[u8], at: usize, inside: u8) -> Result<(), Fault>
+    ensures asks_in_order { Asks (ask (fits at ending buffer.now) 61 ∷ ask (nat_lt 0 inside) 62 ∷ []) result }
+{
+    ask_room(buffer, at, ENDING)?;
+    if inside == 0 {
+        return Err(Fault::of_call(Reason::NothingInside));
     }
     Ok(())
 }

@@ -6,7 +6,7 @@ ghost use Rattle.march.specs.Building.{opened, allows};
 ghost use Rattle.sheet_writer.specs.Sheets.{beginning, heading, operation_piece, ending};
 ghost use Rattle.sheet_writer.specs.Writing.{between, inside, begin_questions, open_questions, write_questions, close_questions, end_questions, Writes};
 
-use crate::pieces::{ENDING, ask_room, heading as heading_of, operation_piece};
+use crate::pieces::{ENDING, ask_ending, ask_room, heading as heading_of, operation_piece};
 use crate::states::{BetweenElements, InsideElement, NotWritten, granted};
 use cam::buffer::put_text;
 use cam::fault::{Fault, Reason};
@@ -41,17 +41,6 @@ impl BetweenElements {
         ask_room(buffer, self.at, heading_of(order))
     }
 
-    // Before the end: does it fit (61), and is there an element (62)?
-    fn ask_end(&self, buffer: &[u8]) -> Result<(), Fault>
-        ensures asks_in_order { Asks (end_questions self.now buffer.now) result }
-    {
-        ask_room(buffer, self.at, ENDING)?;
-        if self.elements == 0 {
-            return Err(Fault::of_call(Reason::NothingInside));
-        }
-        Ok(())
-    }
-
     // Opens an element: `(up`, `(down` or `(columns`.
     pub fn open(
         self,
@@ -76,7 +65,7 @@ impl BetweenElements {
         ensures asks_in_order { AsksIn (λ e. e.fault) (end_questions self buffer.old) result }
         ensures ending_written { Writes ending self.at self (self.at + length ending) buffer.old buffer.new result }
     {
-        let asked = self.ask_end(buffer);
+        let asked = ask_ending(buffer, self.at, self.elements);
         let BetweenElements { at, elements: _ } = granted(self, asked)?;
         Ok(put_text(buffer, at, ENDING))
     }
@@ -94,17 +83,6 @@ impl InsideElement {
             return Err(Fault::of_call(Reason::OnlyComparesInColumns));
         }
         ask_room(buffer, self.at, operation_piece(operation))
-    }
-
-    // Before the element is closed: does the ending fit (61), and is there an operation (62)?
-    fn ask_close(&self, buffer: &[u8]) -> Result<(), Fault>
-        ensures asks_in_order { Asks (close_questions self.now buffer.now) result }
-    {
-        ask_room(buffer, self.at, ENDING)?;
-        if self.operations == 0 {
-            return Err(Fault::of_call(Reason::NothingInside));
-        }
-        Ok(())
     }
 
     // Writes an operation of the element.
@@ -128,7 +106,7 @@ impl InsideElement {
         ensures asks_in_order { AsksIn (λ e. e.fault) (close_questions self buffer.old) result }
         ensures ending_written { Writes ending self.at self (between (self.at + length ending) self.elements) buffer.old buffer.new result }
     {
-        let asked = self.ask_close(buffer);
+        let asked = ask_ending(buffer, self.at, self.operations);
         let InsideElement {
             at,
             order: _,
