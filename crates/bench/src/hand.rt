@@ -70,7 +70,7 @@ impl<C: CamArray> Bench<C> {
         operation: Operation,
         act: F,
     ) -> Result<R, Fault>
-        requires { F.IsAlwaysCallable act }
+        requires callable { F.IsAlwaysCallable act }
         ensures asks_in_order { Asks (hand_questions (C.build self.old.array) (C.state self.old.array) self.old.books operation) result }
         ensures done { IfOk result (λ answer. FnOnceReturnsAtMut F.FnOnce act self.old.array answer self.new.array) }
         ensures counted_by_hand { OnOk result (self.new.books ≡ handled self.old.books) }
