@@ -1,4 +1,4 @@
-use Rattle.std.proofs.Common.{◌≡◌, ℕ, ◌+◌, ◌≤◌, ◌<◌, List, ◌++◌, length, codes, refl, ap, ◌∙◌, append_assoc, arith, length-append}
+use Rattle.std.proofs.Common.{◌≡◌, ℕ, ◌+◌, ◌≤◌, List, ◌++◌, length, codes, ap, ◌∙◌, append_assoc, arith, length-append}
 use Rattle.std.proofs.lemmas.Grind.{common_steps}
 use Rattle.cam.specs.Buffers.{over}
 use Rattle.cam.proofs.Buffers.{Stands, stands_more}
@@ -9,15 +9,6 @@ use Rattle.sheet_writer.proofs.states.BetweenElements.begin.Goals as goal
 -- the length of a beginning
 long : (name : List ℕ) → 0 + length (beginning name) ≡ 7 + length name
 long name = omega (arith, length-append name (codes "\n"))
-
-pub returns-then-buffer-name : goal.returns-then-buffer-name
-returns-then-buffer-name c =
-    let same : c.as_bytes-name.result.now ≡ c.args.name.now = c.as_bytes-name.ensures.letters ∙ c.in_ok-name.ensures.that_name in
-    let short : length c.args.buffer.now < length (beginning c.args.name.now) = omega (arith, long c.args.name.now, ap length same, c.if-buffer-name.true) in
-    record {
-      asks_in_order = grind (arith, common_steps, short, c.in_ok-name.name.allowed, c.of_call.ensures.refused_without_text, c.in_ok-name.ensures.that_name);
-      sheet_begun = refl;
-    }
 
 pub returns : goal.returns
 returns c =
