@@ -34,7 +34,7 @@ impl BetweenElements {
 }
 
 impl InsideElement {
-    // Gives the sheet up. What was written stays in the buffer.
+    // Gives the sheet up. What was written stays in the buffer. A trait would shorten neither: each takes its own fields apart.
     pub fn abandon(self) {
         let InsideElement {
             at: _,

@@ -107,6 +107,7 @@ impl Sheet {
     }
 }
 
+// A match, since a table of words would have to be searched for what an arm says.
 fn order_of(word: &[u8]) -> anyhow::Result<Order> {
     Ok(match word {
         b"up" => Order::Up,
