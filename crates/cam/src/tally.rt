@@ -10,9 +10,5 @@ pub fn one_more(tally: u64) -> u64
     ensures next { result ≡ one_more tally }
     ensures within_the_cap { result ≤ tally_cap }
 {
-    if tally < TALLY_CAP {
-        tally + 1
-    } else {
-        TALLY_CAP
-    }
+    tally.saturating_add(1).min(TALLY_CAP)
 }

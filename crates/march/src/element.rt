@@ -102,24 +102,17 @@ impl Element {
             return None;
         }
         let width = size.width;
+        let number = match self {
+            Element::Down(_) => size.words.saturating_sub(1).saturating_sub(visit),
+            Element::Up(_) | Element::Columns(_) => visit,
+        };
         match self {
-            Element::Up(operations) => {
-                let word = WordIndex { number: visit };
-                operations
-                    .get(operation)
-                    .map(|operation| operation.at_word(word, width))
-            }
-            Element::Down(operations) => {
-                let word = WordIndex {
-                    number: size.words.saturating_sub(1).saturating_sub(visit),
-                };
-                operations
-                    .get(operation)
-                    .map(|operation| operation.at_word(word, width))
-            }
+            Element::Up(operations) | Element::Down(operations) => operations
+                .get(operation)
+                .map(|operation| operation.at_word(WordIndex { number }, width)),
             Element::Columns(comparisons) => {
                 let column = ColumnIndex {
-                    number: visit as u8,
+                    number: number as u8,
                 };
                 comparisons
                     .get(operation)

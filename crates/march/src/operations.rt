@@ -4,7 +4,7 @@ ghost use Rattle.std.specs.List.{slice_get};
 ghost use Rattle.cam.specs.Refusals.{Asks};
 ghost use Rattle.march.specs.declared.operations.Order.TheVariants.{Up};
 ghost use Rattle.march.specs.Tests.{meant};
-ghost use Rattle.march.specs.Building.{opened, order_of, operations_of, longer, element_questions};
+ghost use Rattle.march.specs.Building.{opened, order_of, operations_of, longer, allows, element_questions};
 
 use crate::element::{Element, TestOperation};
 use crate::few::Few;
@@ -16,6 +16,15 @@ pub enum Order {
     Up,
     Down,
     Columns,
+}
+
+impl Order {
+    // Whether an element of this order may have this operation: in columns, only compares.
+    pub fn allows(self, operation: TestOperation) -> bool
+        ensures allowed_in_order { result ≡ allows (opened self) operation }
+    {
+        self != Order::Columns || matches!(operation, TestOperation::Compare(_))
+    }
 }
 
 // An upward element that has no operation yet.
@@ -80,6 +89,7 @@ impl Element {
             // two arms, since the proof of one for both leaves open which of the two has the longer list
             Element::Up(operations) => operations.push(operation),
             Element::Down(operations) => operations.push(operation),
+            // refused here and not by `Order::allows`, after which this match would have an arm that nothing reaches
             Element::Columns(comparisons) => match operation {
                 TestOperation::Compare(comparison) => comparisons.push(comparison),
                 _ => return Err(Fault::of_call(Reason::OnlyComparesInColumns)),

@@ -7,7 +7,7 @@ use cam::array::CamArray;
 use cam::operation::{Answer, Operation, operate};
 
 // What is expected of an answer: nothing, these held bits, or this hit. It has the shape of an answer and is a type of
-// its own all the same, so that what is expected of an array is never taken for what the array answered.
+// its own all the same, by a rule of the project: what is expected of an array is never taken for what it answered.
 #[derive(Clone, Copy)]
 pub enum Expectation {
     Nothing,

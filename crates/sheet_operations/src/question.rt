@@ -18,6 +18,7 @@ pub fn check_room(count: u8, most: u8, reason: Reason, place: usize) -> Result<(
 }
 
 // Asks whether an element may have an operation of this letter, which stands at this place: in columns, only compares.
+// It asks of a letter what `Order::allows` asks of an operation, since it refuses before the operation is read.
 pub fn check_allowed(order: Order, letter: Letter, place: usize) -> Result<(), Fault>
     ensures reading { Reading (Allowed order letter place) result }
 {

@@ -2,7 +2,6 @@
 ghost use Rattle.std.specs.Prelude.{◌≡◌, ◌+◌, length, MatchResult};
 ghost use Rattle.cam.specs.Buffers.{over};
 ghost use Rattle.cam.specs.Refusals.{Asks, AsksIn};
-ghost use Rattle.march.specs.Building.{opened, allows};
 ghost use Rattle.sheet_writer.specs.Sheets.{beginning, heading, operation_piece, ending};
 ghost use Rattle.sheet_writer.specs.Writing.{between, inside, begin_questions, open_questions, write_questions, close_questions, end_questions, Writes};
 
@@ -79,7 +78,7 @@ impl InsideElement {
         if self.operations >= 8 {
             return Err(Fault::of_call(Reason::TooManyOperations));
         }
-        if !is_allowed(self.order, operation) {
+        if !self.order.allows(operation) {
             return Err(Fault::of_call(Reason::OnlyComparesInColumns));
         }
         ask_room(buffer, self.at, operation_piece(operation))
@@ -115,15 +114,5 @@ impl InsideElement {
         } = granted(self, asked)?;
         let at = put_text(buffer, at, ENDING);
         Ok(BetweenElements { at, elements })
-    }
-}
-
-// Whether an element of this order may have this operation.
-fn is_allowed(order: Order, operation: TestOperation) -> bool
-    ensures allowed_in_order { result ≡ allows (opened order) operation }
-{
-    match order {
-        Order::Up | Order::Down => true,
-        Order::Columns => matches!(operation, TestOperation::Compare(_)),
     }
 }
