@@ -7,7 +7,7 @@ ghost use Rattle.array_lines.specs.Cells.{CellFaultNext, CellNext, MarkNext};
 use crate::number::number_within;
 use cam::defect::{Pair, StorageDefect};
 use cam::fault::{Fault, Reason};
-use cam::index::{CellIndex, ColumnIndex, WordIndex};
+use cam::index::{CellIndex, WordIndex};
 use cam::size::Size;
 use words::cursor::Cursor;
 use words::form::Spelled;
@@ -77,13 +77,7 @@ pub(crate) fn read_cell(cursor: &mut Cursor, size: Size) -> Result<Defect, Fault
 {
     let word = number_within(cursor, 0..size.words, Reason::OutsideArray)?;
     let column = number_within(cursor, 0..u16::from(size.width), Reason::OutsideArray)?;
-    let cell = CellIndex {
-        word: WordIndex { number: word },
-        column: ColumnIndex {
-            number: column as u8,
-        },
-    };
-    read_cell_fault(cursor, cell)
+    read_cell_fault(cursor, CellIndex::at(word, column as u8))
 }
 
 // Reads what follows the word `mark`: a word of an array of so many (42).

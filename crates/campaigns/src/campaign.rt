@@ -11,7 +11,7 @@ use crate::faults::{CampaignFault, faults_of_rows};
 use crate::percent::tenths_of_percent;
 use crate::records::CampaignRecords;
 use crate::row::Row;
-use cam::index::{CellIndex, ColumnIndex, WordIndex};
+use cam::index::CellIndex;
 use cam::size::Size;
 use march::test::Test;
 use planes::array::{NotMade, PlaneArray};
@@ -28,11 +28,7 @@ impl CampaignRecords {
         // loops: of the records a chain whose closure works on them would tell nothing afterwards
         for word in 0..size.words {
             for column in 0..fault.places_in_word(size.width) {
-                let cell = CellIndex {
-                    word: WordIndex { number: word },
-                    column: ColumnIndex { number: column },
-                };
-                let detected = self.examine(test, fault, cell);
+                let detected = self.examine(test, fault, CellIndex::at(word, column));
                 count += u32::from(detected);
             }
         }

@@ -3,7 +3,7 @@
 
 use cam::defect::Pair;
 use cam::fault::Fault;
-use cam::index::{CellIndex, ColumnIndex, WordIndex};
+use cam::index::CellIndex;
 use cam::size::Size;
 use campaigns::campaign::campaign;
 use campaigns::row::Row;
@@ -59,10 +59,7 @@ fn tell_trial(rt: &HostRuntime, test: &Test) -> anyhow::Result<()> {
     let records = vec![in rt.alloc(); WordRecord::blank(); 2]?;
     let size = Size { words: 2, width: 2 };
     let mut array = PlaneArray::new(records, size).map_err(Fault::from)?;
-    let cell = CellIndex {
-        word: WordIndex { number: 1 },
-        column: ColumnIndex { number: 0 },
-    };
+    let cell = CellIndex::at(1, 0);
     for bit in [false, true] {
         let pair = Pair {
             held: bit,

@@ -4,7 +4,7 @@
 use bench::judging::judge_array;
 use cam::defect::{Pair, StorageDefect};
 use cam::fault::Fault;
-use cam::index::{CellIndex, ColumnIndex, WordIndex};
+use cam::index::CellIndex;
 use cam::size::Size;
 use planes::array::PlaneArray;
 use planes::word::WordRecord;
@@ -14,23 +14,16 @@ use std::io;
 
 const SIZE: Size = Size { words: 2, width: 3 };
 
-fn cell(word: u16, column: u8) -> CellIndex {
-    CellIndex {
-        word: WordIndex { number: word },
-        column: ColumnIndex { number: column },
-    }
-}
-
 // The example: 2 words of 3 bits, cell (1, 2) always holds 0, and cell (0, 0) answers the pair 01 wrongly.
 fn example_array(heap: Global) -> anyhow::Result<PlaneArray> {
     let records = vec![in heap; WordRecord::blank(); 2]?;
     let mut array = PlaneArray::new(records, SIZE).map_err(Fault::from)?;
-    array.plant_storage(cell(1, 2), StorageDefect::Sa0)?;
+    array.plant_storage(CellIndex::at(1, 2), StorageDefect::Sa0)?;
     let pair = Pair {
         held: false,
         comparand: true,
     };
-    array.plant_pair(cell(0, 0), pair)?;
+    array.plant_pair(CellIndex::at(0, 0), pair)?;
     Ok(array)
 }
 

@@ -6,7 +6,7 @@ use bench::judging::{Judgement, judge_array};
 use cam::array::CamArray;
 use cam::defect::{Pair, Storage, StorageDefect, WrongSet};
 use cam::fault::Fault;
-use cam::index::{CellIndex, ColumnIndex, WordIndex};
+use cam::index::{CellIndex, WordIndex};
 use cam::size::Size;
 use cell_field::field::CellField;
 use cells::table::TableCell;
@@ -51,21 +51,13 @@ fn judged<C: CamArray + Drop>(array: C, chart: &mut [u8]) -> Result<Judgement, F
 }
 
 fn judged_planes(records: Vec<WordRecord>, chart: &mut [u8]) -> Result<Judgement, Fault> {
-    let corner = CellIndex {
-        word: WORD,
-        column: ColumnIndex { number: 2 },
-    };
-    let first = CellIndex {
-        word: WordIndex { number: 0 },
-        column: ColumnIndex { number: 0 },
-    };
     let pair = Pair {
         held: false,
         comparand: true,
     };
     let mut array = PlaneArray::new(records, SIZE)?;
-    array.plant_storage(corner, StorageDefect::Sa0)?;
-    array.plant_pair(first, pair)?;
+    array.plant_storage(CellIndex::at(1, 2), StorageDefect::Sa0)?;
+    array.plant_pair(CellIndex::at(0, 0), pair)?;
     array.plant_stuck_mark(WORD)?;
     judged(array, chart)
 }

@@ -9,7 +9,7 @@ ghost use Rattle.report.specs.Printed.{marked_line, cell_lines, judgement_lines}
 use crate::lines::{array_line, cell_line, chart_line, refused_line, run_line};
 use bench::judging::Judgement;
 use cam::fault::Fault;
-use cam::index::{CellIndex, ColumnIndex, WordIndex};
+use cam::index::CellIndex;
 use cam::size::Size;
 use std::io;
 use std::io::Write;
@@ -39,14 +39,7 @@ fn print_cell<W: Write>(out: &mut W, size: Size, place: usize, byte: u8) -> io::
         return Ok(());
     }
     let width = size.width as usize;
-    let cell = CellIndex {
-        word: WordIndex {
-            number: (place / width) as u16,
-        },
-        column: ColumnIndex {
-            number: (place % width) as u8,
-        },
-    };
+    let cell = CellIndex::at((place / width) as u16, (place % width) as u8);
     print_line(out, |buffer| cell_line(buffer, cell, byte))
 }
 

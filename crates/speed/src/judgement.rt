@@ -3,7 +3,7 @@ use crate::checksum::{START, fold_all, fold_bytes};
 use bench::judging::{Judged, Judgement, judge_array};
 use cam::defect::{Pair, StorageDefect};
 use cam::fault::Fault;
-use cam::index::{CellIndex, ColumnIndex, WordIndex};
+use cam::index::{CellIndex, WordIndex};
 use cam::size::Size;
 use planes::array::PlaneArray;
 use planes::word::WordRecord;
@@ -42,20 +42,13 @@ const PAIRS: [(u16, u8, Pair); 2] = [
     ),
 ];
 
-fn cell(word: u16, column: u8) -> CellIndex {
-    CellIndex {
-        word: WordIndex { number: word },
-        column: ColumnIndex { number: column },
-    }
-}
-
 // A handful of defects, one of each sort.
 fn plant_some(array: &mut PlaneArray) -> Result<(), Fault> {
     for (word, column, defect) in STORAGE {
-        array.plant_storage(cell(word, column), defect)?;
+        array.plant_storage(CellIndex::at(word, column), defect)?;
     }
     for (word, column, pair) in PAIRS {
-        array.plant_pair(cell(word, column), pair)?;
+        array.plant_pair(CellIndex::at(word, column), pair)?;
     }
     array.plant_stuck_mark(WordIndex { number: 77 })
 }

@@ -14,8 +14,8 @@ returns-in_err-column-clause-reading c =
     let j = rw (c.from.ensures, w.text_stays) at c.in_err-column.ensures.reading.reads in
     rw (same_fault _ c.from_residual-in_err-column.ensures.1) (pinned (cell_one _ _ _ _) (on w.reading.reads (off j)))
 
-pub overflow_cast-cell : goal.overflow_cast-cell
-overflow_cast-cell c =
+pub overflow_cast-column : goal.overflow_cast-column
+overflow_cast-column c =
     let l = within_below _ _ _ _ _ _ c.in_ok-column.ensures.reading.reads in
     omega (arith, l)
 
@@ -23,5 +23,5 @@ pub returns-clause-reading : goal.returns-clause-reading
 returns-clause-reading c =
     let w = c.in_ok-word.ensures in
     let j = rw (c.from.ensures, w.text_stays) at c.in_ok-column.ensures.reading.reads in
-    let f = rw (c.in_ok-column.ensures.text_stays, w.text_stays) at c.read_cell_fault.ensures.reading.reads in
+    let f = rw (c.at.ensures.this_word_and_column, c.in_ok-column.ensures.text_stays, w.text_stays) at c.read_cell_fault.ensures.reading.reads in
     pinned (cell_one _ _ _ _) (on w.reading.reads (on j f))

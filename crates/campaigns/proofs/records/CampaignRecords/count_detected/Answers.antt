@@ -25,7 +25,7 @@ loop-column-preserved c =
     let inv = c.loop-column.invariant in
     let told = c.examine-detected.ensures in
     let here : c.examine-detected.result ≡ det (place_at a j) =
-    told.detected_at_place ∙ ap (λ (s : Size). detected_at (elements_of c.args.test.now) c.args.fault s.words s.width (place_at a j)) inv.2 in
+    (rw c.at.ensures.this_word_and_column at told.detected_at_place) ∙ ap (λ (s : Size). detected_at (elements_of c.args.test.now) c.args.fault s.words s.width (place_at a j)) inv.2 in
     let one : c.from-count.result ≡ cond (det (place_at a j)) 1 0 = c.from-count.ensures ∙ ap from_bool here ∙ byte_is (det (place_at a j)) in (
       omega (arith, one, inv.0, column_more det a j),
       omega (arith, one, few (det (place_at a j)), inv.1),
