@@ -2,7 +2,7 @@
 use Rattle.std.specs.Prelude.{◌≡◌, ℕ, cond, List, [], ◌∷◌, ◌++◌, length, codes, decimal, Result, MatchResult, ◌==◌, nat_le}
 pub use Rattle.cam.specs.Buffers.{over}
 use Rattle.cam.specs.declared.fault.Fault.{Fault}
-use Rattle.cam.specs.Refusals.{Question, ask}
+use Rattle.cam.specs.Refusals.{Question, ask, Asks}
 
 -- the lines, each with its line feed
 abbrev pub array_line : ℕ → ℕ → List ℕ
@@ -32,10 +32,11 @@ largest_place = 4294967295
 abbrev pub Made : List ℕ → ℕ → List ℕ → List ℕ → Type 0
 Made line n old new = (n ≡ length line) × (new ≡ over old 0 line)
 
--- What a call makes of a buffer: the line, or nothing where it is refused.
-abbrev pub MakesLine : List ℕ → List ℕ → List ℕ → Result ℕ Fault → Type 0
-MakesLine line old new r = MatchResult r (λ n. Made line n old new) (λ _. new ≡ old)
-
 -- 64 bytes at least
 abbrev pub line_questions : ℕ → List Question
 line_questions bytes = ask (nat_le 64 bytes) 57 ∷ []
+
+-- A call that makes a line asks for 64 bytes at least, and then makes the line, or leaves the buffer alone where it is refused.
+pub record AsksThenMakes (line : List ℕ) (old new : List ℕ) (r : Result ℕ Fault) : Type 0 where
+  pub asks : Asks (line_questions (length old)) r
+  pub makes : MatchResult r (λ n. Made line n old new) (λ _. new ≡ old)

@@ -1,8 +1,8 @@
 // The lines of a judgement. Each call asks for a buffer of 64 bytes or more (57), makes its line at the front of it, and
 // gives the line's length; the bytes after the line are left alone.
-ghost use Rattle.std.specs.Prelude.{◌≡◌, min, length};
-ghost use Rattle.cam.specs.Refusals.{Asks, reason_number, layer_number};
-ghost use Rattle.report.specs.Text.{array_line, run_line, chart_line, cell_line, refused_line, largest_place, MakesLine, line_questions};
+ghost use Rattle.std.specs.Prelude.{◌≡◌, min};
+ghost use Rattle.cam.specs.Refusals.{reason_number, layer_number};
+ghost use Rattle.report.specs.Text.{array_line, run_line, chart_line, cell_line, refused_line, largest_place, AsksThenMakes};
 
 use crate::pieces::line;
 use cam::fault::Fault;
@@ -11,8 +11,7 @@ use cam::size::Size;
 
 // `array N W`
 pub fn array_line(buffer: &mut [u8], size: Size) -> Result<usize, Fault>
-    ensures asks_in_order { Asks (line_questions (length buffer.old)) result }
-    ensures every_byte { MakesLine (array_line size.words size.width) buffer.old buffer.new result }
+    ensures asks_then_makes { AsksThenMakes (array_line size.words size.width) buffer.old buffer.new result }
 {
     let Size { words, width } = size;
     line(
@@ -24,8 +23,7 @@ pub fn array_line(buffer: &mut [u8], size: Size) -> Result<usize, Fault>
 
 // `run OPERATIONS misses MISSES sound`, or `faulty` at the end where there are misses
 pub fn run_line(buffer: &mut [u8], operations: u32, misses: u32) -> Result<usize, Fault>
-    ensures asks_in_order { Asks (line_questions (length buffer.old)) result }
-    ensures every_byte { MakesLine (run_line operations misses) buffer.old buffer.new result }
+    ensures asks_then_makes { AsksThenMakes (run_line operations misses) buffer.old buffer.new result }
 {
     let end: &[u8] = if misses == 0 {
         b" sound\n"
@@ -37,8 +35,7 @@ pub fn run_line(buffer: &mut [u8], operations: u32, misses: u32) -> Result<usize
 
 // `chart OPERATIONS cells CELLS`
 pub fn chart_line(buffer: &mut [u8], operations: u32, cells: u32) -> Result<usize, Fault>
-    ensures asks_in_order { Asks (line_questions (length buffer.old)) result }
-    ensures every_byte { MakesLine (chart_line operations cells) buffer.old buffer.new result }
+    ensures asks_then_makes { AsksThenMakes (chart_line operations cells) buffer.old buffer.new result }
 {
     line(
         buffer,
@@ -49,8 +46,7 @@ pub fn chart_line(buffer: &mut [u8], operations: u32, cells: u32) -> Result<usiz
 
 // `cell WORD COLUMN BYTE`
 pub fn cell_line(buffer: &mut [u8], cell: CellIndex, byte: u8) -> Result<usize, Fault>
-    ensures asks_in_order { Asks (line_questions (length buffer.old)) result }
-    ensures every_byte { MakesLine (cell_line cell.word.number cell.column.number byte) buffer.old buffer.new result }
+    ensures asks_then_makes { AsksThenMakes (cell_line cell.word.number cell.column.number byte) buffer.old buffer.new result }
 {
     let word = cell.word.number;
     let column = cell.column.number;
@@ -71,8 +67,7 @@ fn written_place(place: usize) -> u32
 
 // `refused NUMBER LAYER PLACE`
 pub fn refused_line(buffer: &mut [u8], fault: Fault) -> Result<usize, Fault>
-    ensures asks_in_order { Asks (line_questions (length buffer.old)) result }
-    ensures every_byte { MakesLine (refused_line (reason_number fault.reason) (layer_number fault.layer) (min fault.place largest_place)) buffer.old buffer.new result }
+    ensures asks_then_makes { AsksThenMakes (refused_line (reason_number fault.reason) (layer_number fault.layer) (min fault.place largest_place)) buffer.old buffer.new result }
 {
     let number = fault.number();
     let layer = fault.layer_number();

@@ -1,8 +1,7 @@
 // A line from its pieces.
 ghost use Rattle.std.specs.Prelude.{◌≡◌, ◌+◌, ◌≤◌, length, decimal};
 ghost use Rattle.cam.specs.Buffers.{over};
-ghost use Rattle.cam.specs.Refusals.{Asks};
-ghost use Rattle.report.specs.Text.{MakesLine, line_questions};
+ghost use Rattle.report.specs.Text.{AsksThenMakes};
 ghost use Rattle.report.specs.Pieces.{line_of, longest};
 
 use cam::buffer::put_text;
@@ -23,8 +22,7 @@ fn put_number(buffer: &mut [u8], at: usize, number: u32) -> usize
 // gives its length.
 pub(crate) fn line(buffer: &mut [u8], pieces: &[(&[u8], u32)], end: &[u8]) -> Result<usize, Fault>
     requires short { longest pieces.now + length end.now ≤ 64 }
-    ensures asks_in_order { Asks (line_questions (length buffer.old)) result }
-    ensures every_byte { MakesLine (line_of pieces.now end.now) buffer.old buffer.new result }
+    ensures asks_then_makes { AsksThenMakes (line_of pieces.now end.now) buffer.old buffer.new result }
 {
     if buffer.len() < 64 {
         return Err(Fault::of_call(Reason::BufferTooShort));

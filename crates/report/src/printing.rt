@@ -2,8 +2,8 @@
 ghost use Rattle.std.specs.Prelude.{◌≡◌, ℕ, ◌*◌, ◌<◌, min, List, replicate, take, Ok, IsOk, OnOk};
 ghost use Rattle.std.specs.Fn.{FnOnceReturnsAtMut};
 ghost use Rattle.std.specs.Io.KnownBytes.{Appends};
-ghost use Rattle.cam.specs.Refusals.{Asks, reason_number, layer_number};
-ghost use Rattle.report.specs.Text.{refused_line, largest_place, line_questions};
+ghost use Rattle.cam.specs.Refusals.{reason_number, layer_number};
+ghost use Rattle.report.specs.Text.{refused_line, largest_place};
 ghost use Rattle.report.specs.Printed.{marked_line, cell_lines, judgement_lines};
 
 use crate::lines::{array_line, cell_line, chart_line, refused_line, run_line};
@@ -24,9 +24,7 @@ fn print_line<W: Write, F: FnOnce(&mut [u8]) -> Result<usize, Fault>>(
     ensures line_appended { OnOk result ((n : ℕ) × (new : List ℕ) × FnOnceReturnsAtMut F.FnOnce make (replicate 64 0) (Ok n) new × Appends (W.contents out.old) (W.contents out.new) (take n new)) }
 {
     let mut buffer = [0u8; 64];
-    let Ok(length) = make(&mut buffer) else {
-        unreachable!()
-    };
+    let length = make(&mut buffer).unwrap();
     out.write_all(&buffer[..length.min(64)])
 }
 
