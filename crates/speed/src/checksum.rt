@@ -11,15 +11,10 @@ pub(crate) fn fold(sum: u64, value: u64) -> u64 {
 }
 
 // Takes values into a checksum.
-pub(crate) fn fold_all(sum: u64, values: &[u64]) -> u64 {
-    values.iter().fold(sum, |sum, value| fold(sum, *value))
-}
-
-// Takes bytes into a checksum.
-pub(crate) fn fold_bytes(sum: u64, bytes: &[u8]) -> u64 {
-    bytes
+pub(crate) fn fold_all<T: Copy + Into<u64>>(sum: u64, values: &[T]) -> u64 {
+    values
         .iter()
-        .fold(sum, |sum, byte| fold(sum, u64::from(*byte)))
+        .fold(sum, |sum, value| fold(sum, (*value).into()))
 }
 
 // Takes a record, but for its mark, into a checksum.

@@ -1,5 +1,5 @@
 // Work: a whole judgement of an array of 256 words of 64 bits with a handful of defects.
-use crate::checksum::{START, fold_all, fold_bytes};
+use crate::checksum::{START, fold_all};
 use bench::judging::{Judged, Judgement, judge_array};
 use cam::defect::{Pair, StorageDefect};
 use cam::fault::Fault;
@@ -67,7 +67,7 @@ fn fold_judgement(sum: u64, judgement: Judgement, chart: &[u8]) -> u64 {
         u64::from(judgement.charting),
         u64::from(judgement.blemished),
     ];
-    fold_bytes(fold_all(sum, &values), chart)
+    fold_all(fold_all(sum, &values), chart)
 }
 
 pub(crate) fn judgements(rt: &HostRuntime, repeats: u32) -> anyhow::Result<u64> {

@@ -7,12 +7,13 @@ mod coverage;
 mod judgement;
 mod reading;
 
-use anyhow::{Context, anyhow};
+use anyhow::{Context, bail};
 use coverage::campaign_rows;
 use judgement::judgements;
 use reading::readings;
 use std::env;
 
+// An enum that is matched: a table of closures would be no shorter, and the three works have nothing else in common.
 #[derive(Clone, Copy)]
 enum Work {
     Judgement,
@@ -63,7 +64,7 @@ fn run(rt: &HostRuntime) -> anyhow::Result<()> {
     match (arguments.next(), arguments.next()) {
         (None, None) => tell_all(rt),
         (Some(work), Some(repeats)) => tell_one(rt, work.as_str(), repeats.as_str()),
-        _ => Err(anyhow!("usage: speed [WORK REPEATS]")),
+        _ => bail!("usage: speed [WORK REPEATS]"),
     }
 }
 

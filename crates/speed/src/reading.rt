@@ -31,7 +31,7 @@ fn largest_text(heap: Global) -> anyhow::Result<Vec<u8>> {
     let mut text = b"(array 256 64\n".to_vec(heap)?;
     for word in 0..256usize {
         let line = cell_line(heap, word)?;
-        if text.len() >= LONGEST || line.len() >= LONGEST || text.len() + line.len() + 2 > LONGEST {
+        if text.len().saturating_add(line.len()) > LONGEST - 2 {
             break;
         }
         text.extend_from_slice(line.as_bytes())?;

@@ -1,6 +1,6 @@
 // Calls of a bench, read from their lines.
 use crate::scanner::Scanner;
-use anyhow::anyhow;
+use anyhow::bail;
 use bench::calls::Call;
 use cam::index::WordIndex;
 use cam::operation::Operation;
@@ -28,7 +28,7 @@ fn operation_of(name: &[u8], words: &mut Scanner<'_>) -> anyhow::Result<Operatio
         b"e" => Operation::Erase {
             word: word_index(words)?,
         },
-        _ => return Err(anyhow!("no such call of a bench")),
+        _ => bail!("no such call of a bench"),
     })
 }
 

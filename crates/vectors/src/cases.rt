@@ -1,7 +1,7 @@
 // The cases of the input, one after the other.
 use crate::output::Output;
 use crate::scanner::Scanner;
-use anyhow::{Context, anyhow};
+use anyhow::{Context, ensure};
 use array_text::array::{RECORDS, read_array};
 use cam::fault::Fault;
 use cam::size::Size;
@@ -41,10 +41,11 @@ impl<'a> Cases<'a> {
 
     // Passes the empty line that ends each case.
     pub(crate) fn end(&mut self) -> anyhow::Result<()> {
-        match self.input.line() {
-            b"" => Ok(()),
-            _ => Err(anyhow!("a case does not end with its payloads")),
-        }
+        ensure!(
+            self.input.line().is_empty(),
+            "a case does not end with its payloads"
+        );
+        Ok(())
     }
 
     // The next payload. The header says how many bytes it has.

@@ -3,7 +3,7 @@ use crate::cases::Cases;
 use crate::cells_read::{Described, cells_of};
 use crate::output::{put_done, put_found, put_numbers, put_refused};
 use crate::scanner::Scanner;
-use anyhow::anyhow;
+use anyhow::bail;
 use bench::bench::Bench;
 use cam::array::CamArray;
 use cam::fault::Fault;
@@ -62,6 +62,6 @@ pub(crate) fn answer_cells(cases: &mut Cases<'_>) -> anyhow::Result<()> {
     match cases.header.word() {
         b"0" => answer_field::<TableCell>(cases, lines),
         b"1" => answer_field::<TransistorCell>(cases, lines),
-        _ => Err(anyhow!("no such make of cell")),
+        _ => bail!("no such make of cell"),
     }
 }

@@ -16,7 +16,7 @@ mod tickets;
 mod trial_cases;
 mod writer_cases;
 
-use anyhow::anyhow;
+use anyhow::bail;
 use bench_cases::answer_bench;
 use campaign_cases::answer_campaign;
 use cases::Cases;
@@ -37,7 +37,7 @@ fn answer_case(cases: &mut Cases<'_>, kind: &[u8]) -> anyhow::Result<()> {
         b"trial" => answer_trial(cases),
         b"campaign" => answer_campaign(cases),
         b"cells" => answer_cells(cases),
-        _ => Err(anyhow!("a case of no known kind")),
+        _ => bail!("a case of no known kind"),
     }
 }
 

@@ -1,5 +1,5 @@
 // Bytes that are read from front to back.
-use anyhow::{Context, anyhow};
+use anyhow::Context;
 use std::error::Error;
 use std::str::{FromStr, from_utf8};
 
@@ -24,11 +24,8 @@ impl<'a> Scanner<'a> {
 
     // The next bytes, as many as are asked for.
     pub(crate) fn take(&mut self, count: usize) -> anyhow::Result<&'a [u8]> {
-        let rest = self.rest;
-        if count > rest.len() {
-            return Err(anyhow!("the input ends inside a case"));
-        }
-        let (front, back) = rest.split_at(count);
+        let parts = self.rest.split_at_checked(count);
+        let (front, back) = parts.context("the input ends inside a case")?;
         self.rest = back;
         Ok(front)
     }

@@ -2,7 +2,7 @@
 use crate::cases::Cases;
 use crate::output::{Output, put_refused};
 use crate::scanner::Scanner;
-use anyhow::anyhow;
+use anyhow::{Context, bail};
 use march::element::{Comparison, TestOperation};
 use march::operations::Order;
 use sheet_writer::states::{BetweenElements, InsideElement, NotWritten};
@@ -57,13 +57,12 @@ type Called = Result<Sheet, NotWritten<Sheet>>;
 
 // The same of a call with a state, which is refused with it or granted with the next one.
 fn with_sheets<S: Into<Sheet>, T: Into<Sheet>>(called: Result<T, NotWritten<S>>) -> Called {
-    match called {
-        Ok(next) => Ok(next.into()),
-        Err(NotWritten { state, fault }) => Err(NotWritten {
+    called
+        .map(|next| next.into())
+        .map_err(|NotWritten { state, fault }| NotWritten {
             state: state.into(),
             fault,
-        }),
-    }
+        })
 }
 
 fn call_between(state: BetweenElements, piece: Piece<'_>, buffer: &mut [u8]) -> Option<Called> {
@@ -113,7 +112,7 @@ fn order_of(word: &[u8]) -> anyhow::Result<Order> {
         b"up" => Order::Up,
         b"down" => Order::Down,
         b"columns" => Order::Columns,
-        _ => return Err(anyhow!("no such order")),
+        _ => bail!("no such order"),
     })
 }
 
@@ -123,7 +122,7 @@ fn comparison_of(words: &mut Scanner<'_>) -> anyhow::Result<Comparison> {
         hit: match words.word() {
             b"hit" => true,
             b"none" => false,
-            _ => return Err(anyhow!("a compare expects hit or none")),
+            _ => bail!("a compare expects hit or none"),
         },
     })
 }
@@ -139,7 +138,7 @@ fn piece_of(line: &[u8]) -> anyhow::Result<Piece<'_>> {
         b"r" => Piece::Write(TestOperation::Read(words.bit()?)),
         b"c" => Piece::Write(TestOperation::Compare(comparison_of(&mut words)?)),
         b"e" => Piece::Write(TestOperation::Erase),
-        _ => return Err(anyhow!("no such piece")),
+        _ => bail!("no such piece"),
     })
 }
 
@@ -164,9 +163,9 @@ pub(crate) fn answer_writer(cases: &mut Cases<'_>) -> anyhow::Result<()> {
     let mut sheet = Sheet::New;
     for line in from_utf8(calls)?.split_terminator('\n') {
         let piece = piece_of(line.as_bytes())?;
-        let Some(called) = sheet.call(piece, buffer.as_mut_slice()) else {
-            return Err(anyhow!("a call that does not fit where the sheet stands"));
-        };
+        let called = sheet
+            .call(piece, buffer.as_mut_slice())
+            .context("a call that does not fit where the sheet stands")?;
         sheet = put_written(&mut cases.out, called, buffer.as_slice())?;
     }
     cases.out.write_all(buffer.as_slice())?;
