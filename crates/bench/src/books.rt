@@ -1,5 +1,9 @@
 // What a bench keeps beside its array.
-use cam::fault::Fault;
+ghost use Rattle.std.specs.Prelude.{[], ◌∷◌};
+ghost use Rattle.cam.specs.Refusals.{Asks, ask};
+ghost use Rattle.bench.specs.Questions.{idle};
+
+use cam::fault::{Fault, Reason};
 use mlt1::state::RunState;
 
 // What is known of the array: nothing yet; what the last run that was closed found, with the number of its misses; or how
@@ -24,6 +28,18 @@ pub struct Books {
     pub quits: u64,
     pub run: Option<RunState>,
     pub finding: Finding,
+}
+
+impl Books {
+    // Asks whether no run is in hand (51): all that may not be done during a run asks this first.
+    pub(crate) fn must_be_idle(&self) -> Result<(), Fault>
+        ensures asks_for_no_run { Asks (ask (idle self.now) 51 ∷ []) result }
+    {
+        match self.run {
+            Some(_) => Err(Fault::of_call(Reason::RunInHand)),
+            None => Ok(()),
+        }
+    }
 }
 
 // The ticket of a run. No caller can let it go: whoever has one hands it back by closing or quitting the run.

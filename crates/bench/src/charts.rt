@@ -27,9 +27,7 @@ impl<C: CamArray> Bench<C> {
         ensures refused_changes_nothing { OnErr result (self.new ≡ self.old) }
         ensures refused_leaves_the_buffer { OnErr result (buffer.new ≡ buffer.old) }
     {
-        if self.books.run.is_some() {
-            return Err(Fault::of_call(Reason::RunInHand));
-        }
+        self.books.must_be_idle()?;
         let size = size_of(&self.array);
         if buffer.len() < size.cells() as usize {
             return Err(Fault::of_call(Reason::BufferTooShort));

@@ -10,9 +10,10 @@ use crate::books::{NotClosed, Ticket};
 use crate::calls::Call;
 use cam::array::CamArray;
 use cam::operation::Operation;
+use cam::size::LARGEST;
 
-// A byte for each cell of the largest array, 256 words of 64 bits.
-const CHART_BYTES: usize = 16_384;
+// A byte for each cell of the largest array.
+const CHART_BYTES: usize = LARGEST.words as usize * LARGEST.width as usize;
 
 // By the function that a caller has for each operation, so that the rules are those of these functions.
 fn perform_by_hand<C: CamArray>(bench: &mut Bench<C>, operation: Operation)

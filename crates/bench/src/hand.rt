@@ -51,9 +51,8 @@ impl<C: CamArray> Bench<C> {
             Operation::Compare { pattern, mask } => (true, self.is_narrow(pattern, mask)),
             Operation::Erase { word } => (self.has_word(word), true),
         };
-        if self.books.run.is_some() {
-            Err(Fault::of_call(Reason::RunInHand))
-        } else if !word_there {
+        self.books.must_be_idle()?;
+        if !word_there {
             Err(Fault::of_call(Reason::NoSuchWord))
         } else if !narrow_enough {
             Err(Fault::of_call(Reason::PatternTooWide))

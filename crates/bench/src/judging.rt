@@ -5,7 +5,7 @@ ghost use Rattle.chart.specs.Chart.{Charted as ChartIn};
 ghost use Rattle.bench.specs.Books.{new_books};
 ghost use Rattle.bench.specs.Judging.{judge_questions, judged_state, Judges};
 
-use crate::bench::{Bench, LIMIT};
+use crate::bench::Bench;
 use crate::books::Finding;
 use cam::array::CamArray;
 use cam::fault::{Fault, Reason};
@@ -47,14 +47,13 @@ impl<C: Drop> From<NotJudged<C>> for Fault {
 }
 
 // Asks for a byte for each cell (57), and for room in the tally for a run and a chart (54).
-fn may_judge<C: CamArray>(array: &C, bytes: usize) -> Result<(), Fault>
-    ensures asks_in_order { Asks (judge_questions (C.build array.now) (C.state array.now) bytes) result }
+fn may_judge<C: CamArray>(bench: &Bench<C>, bytes: usize) -> Result<(), Fault>
+    ensures asks_in_order { Asks (judge_questions (C.build bench.now.array) (C.state bench.now.array) bytes) result }
 {
-    let size = size_of(array);
-    let operations = table::operation_count(size) as u64 + drawing::operation_count(size) as u64;
+    let size = size_of(&bench.array);
     if bytes < size.cells() as usize {
         Err(Fault::of_call(Reason::BufferTooShort))
-    } else if array.tally() + operations > LIMIT {
+    } else if !bench.has_room(table::operation_count(size) + drawing::operation_count(size)) {
         Err(Fault::of_call(Reason::LimitPassed))
     } else {
         Ok(())
@@ -72,7 +71,7 @@ fn judge_on<C: CamArray>(bench: &mut Bench<C>, buffer: &mut [u8]) -> Result<Judg
     ensures refused_changes_nothing { OnErr result (bench.new ≡ bench.old) }
     ensures refused_leaves_the_buffer { OnErr result (buffer.new ≡ buffer.old) }
 {
-    may_judge(&bench.array, buffer.len())?;
+    may_judge(bench, buffer.len())?;
     let size = size_of(&bench.array);
     let finding = bench.run_whole()?;
     let charted = bench.chart(buffer)?;

@@ -22,9 +22,7 @@ impl<C: CamArray> Bench<C> {
         ensures array_stays { self.new.array ≡ self.old.array }
         ensures refused_changes_nothing { OnErr result (self.new ≡ self.old) }
     {
-        if self.books.run.is_some() {
-            return Err(Fault::of_call(Reason::RunInHand));
-        }
+        self.books.must_be_idle()?;
         let operations = operation_count(size_of(&self.array));
         if !self.has_room(operations) || self.books.starts >= LIMIT {
             return Err(Fault::of_call(Reason::LimitPassed));
