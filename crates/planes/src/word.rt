@@ -49,12 +49,20 @@ impl WordRecord {
         self.mark = true;
     }
 
+    // What the columns hold: an sa0 cell 0 and an sa1 cell 1, whatever is stored.
+    #[tactic(auto, using(cam::proofs::BitLaws::bits))]
+    fn shown(&self) -> u64
+        ensures bit_of_each_column { (w j : ℕ) → j < w → w ≤ 64 → bit result j ≡ shown w self.now j }
+    {
+        (self.held | self.sa1) & !self.sa0
+    }
+
     // The held bits below `width`.
     pub(crate) fn read(&self, width: u8) -> u64
         requires few_bits { width ≤ 64 }
         ensures held_bits { result ≡ value width (shown width self.now) }
     {
-        (self.held | self.sa1) & !self.sa0 & low_ones(width)
+        self.shown() & low_ones(width)
     }
 
     // Whether the word is marked and each column below `width` that is not blocked matches.
@@ -65,7 +73,7 @@ impl WordRecord {
         if !self.mark {
             return false;
         }
-        let held = (self.held | self.sa1) & !self.sa0;
+        let held = self.shown();
         let mismatch = held ^ pattern ^ self.reversed(held, pattern);
         !self.stuck & (mismatch & !mask & low_ones(width) == 0)
     }
