@@ -1,11 +1,22 @@
 // The plane array as an array under test.
+ghost use Rattle.std.specs.Prelude.{◌≡◌, take, vec_items};
 ghost use Rattle.planes.specs.Formed.{well_formed};
 ghost use Rattle.planes.specs.Planes.{build_of, state_of};
 
 use crate::array::PlaneArray;
+use crate::word::WordRecord;
 use cam::array::CamArray;
 use cam::index::WordIndex;
 use cam::tally::one_more;
+
+impl PlaneArray {
+    // The records of its words.
+    fn used(&self) -> &[WordRecord]
+        ensures record_of_each_word { result.now ≡ take self.now.size.words (vec_items self.now.records) }
+    {
+        &self.records.as_slice()[..self.size.words as usize]
+    }
+}
 
 impl CamArray for PlaneArray {
     ghost build = { build_of };
@@ -26,6 +37,8 @@ impl CamArray for PlaneArray {
         self.tally
     }
 
+    // The bound is tested, here and in `erase`, since there may be more records than words, and a `get_mut` of the words'
+    // records alone would hand out a loan of which a law would have to say what is written through it.
     fn write(&mut self, word: WordIndex, pattern: u64, mask: u64) {
         if word.number < self.size.words {
             self.records[word.number as usize].write(pattern, mask);
@@ -35,17 +48,16 @@ impl CamArray for PlaneArray {
 
     fn read(&mut self, word: WordIndex) -> u64 {
         self.tally = one_more(self.tally);
-        if word.number < self.size.words {
-            self.records[word.number as usize].read(self.size.width)
-        } else {
-            0
-        }
+        let width = self.size.width;
+        self.used()
+            .get(word.number as usize)
+            .map_or(0, |record| record.read(width))
     }
 
     fn compare(&mut self, pattern: u64, mask: u64) -> bool {
         self.tally = one_more(self.tally);
         let width = self.size.width;
-        self.records.as_slice()[..self.size.words as usize]
+        self.used()
             .iter()
             .any(|record| record.matches(pattern, mask, width))
     }

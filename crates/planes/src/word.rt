@@ -13,7 +13,7 @@ use cam::index::ColumnIndex;
 // Bit j of each number belongs to column j: the held bits, the columns with each storage defect, and those with each
 // pair in their wrong set. A stuck mark counts as clear, an sa0 cell as 0 and an sa1 cell as 1, whatever is stored;
 // where several storage planes have a column, the first of sa0, sa1, norise and nofall counts. Mark and stuck are two flags
-// and not an `Option` of a mark, whose default would be a stuck one: the default record is that of a sound word.
+// and no `Mark`, since a caller may fill a record with any, also with a stuck mark that is set.
 #[derive(Clone, Copy, Default)]
 pub struct WordRecord {
     pub held: u64,

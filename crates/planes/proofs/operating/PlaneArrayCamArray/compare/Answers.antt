@@ -1,4 +1,4 @@
-use Rattle.std.proofs.Common.{◌≤◌, Bool, length, take, vec_items, refl, ap, ◌∙◌, arith, rules, tests}
+use Rattle.std.proofs.Common.{◌≤◌, Bool, length, vec_items, refl, ap, ◌∙◌, arith, rules, tests}
 use Rattle.std.proofs.lemmas.Iterator.{YieldsList-from_slice}
 use Rattle.std.proofs.lemmas.Iterator.Search.{any_from_yields_List}
 use Rattle.cam.specs.Model.{word_matches, any_below}
@@ -20,9 +20,9 @@ returns c =
     let fits : n ≤ length rs = omega (arith, s.records.ok.0) in
     let test : WordRecord → Bool = λ r. word_matches w (wrong_of r) p m (mark_of r) (shown w r) in
     record {
-      some_word_matches = any_from_yields_List test _ _ c.any.result c.any.ensures.ran (YieldsList-from_slice (take n c.as_slice.result.now) cc) (λ x b q k. search (rules, tests))
-          ∙ any_of_list test blank_record (take n c.as_slice.result.now)
-          ∙ ap (λ xs. any_below (length (take n xs)) (matches_in w p m (take n xs))) c.as_slice.ensures.value
+      some_word_matches = any_from_yields_List test _ _ c.any.result c.any.ensures.ran (YieldsList-from_slice c.used.result.now cc) (λ x b q k. search (rules, tests))
+          ∙ any_of_list test blank_record c.used.result.now
+          ∙ ap (λ xs. any_below (length xs) (matches_in w p m xs)) c.used.ensures.record_of_each_word
           ∙ some_match n w p m rs fits;
       only_counted = ap (state_from n w rs) c.one_more-self.ensures.next;
       build_stays = refl;
