@@ -37,8 +37,7 @@ impl CamArray for PlaneArray {
         self.tally
     }
 
-    // The bound is tested, here and in `erase`, since there may be more records than words, and a `get_mut` of the words'
-    // records alone would hand out a loan of which a law would have to say what is written through it.
+    // The bound is tested, here and in `erase`: a `get_mut` needs a loan of the first records, as there may be more.
     fn write(&mut self, word: WordIndex, pattern: u64, mask: u64) {
         if word.number < self.size.words {
             self.records[word.number as usize].write(pattern, mask);
