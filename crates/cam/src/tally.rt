@@ -10,5 +10,6 @@ pub fn one_more(tally: u64) -> u64
     ensures next { result ≡ one_more tally }
     ensures within_the_cap { result ≤ tally_cap }
 {
-    tally.saturating_add(1).min(TALLY_CAP)
+    // the cap first: with `saturating_add(1).min(TALLY_CAP)` a judgement takes a fifth longer
+    tally.min(TALLY_CAP - 1) + 1
 }
