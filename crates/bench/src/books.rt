@@ -7,7 +7,7 @@ use cam::fault::{Fault, Reason};
 use mlt1::state::RunState;
 
 // What is known of the array: nothing yet; what the last run that was closed found, with the number of its misses; or how
-// many blemished cells the last chart shows.
+// many blemished cells the last chart shows. Nothing yet is a case and no `None`, since each finding has a number.
 #[derive(Clone, Copy, Debug, Default, PartialEq, Eq)]
 pub enum Finding {
     #[default]

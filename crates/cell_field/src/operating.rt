@@ -13,7 +13,8 @@ use cam::tally::one_more;
 use cells::kind::CellKind;
 
 impl<C: CellKind> CellField<'_, C> {
-    // The held bits of a word; 0 past the last word.
+    // The held bits of a word; 0 past the last word. The bound is tested, here and below, since there may be more cells
+    // and marks than words, and a `get` of cells or marks would find those too.
     fn bits_of(&self, word: WordIndex) -> u64
         ensures held_bits { result ≡ read_word (field_build C.meaning self.now) word.number (field_state C.meaning self.now) }
     {

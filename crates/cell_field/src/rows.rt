@@ -11,6 +11,7 @@ pub(crate) fn read_row<C: CellKind>(row: &[C]) -> u64
     requires few_bits { length row.now ≤ 64 }
     ensures held_bits { result ≡ value (length row.now) (λ j. (at (map C.meaning row.now) j).held) }
 {
+    // a loop, since for a fold from the last cell on it stays open that the shifted bits are the value of the row
     let mut bits = 0u64;
     for (column, cell) in row.iter().enumerate() {
         if cell.held() {

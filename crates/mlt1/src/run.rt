@@ -53,7 +53,7 @@ impl RunState {
         self.advance_in(&elements(), array)
     }
 
-    // The same, with the table of MLT-1 at hand.
+    // The same, with the table of MLT-1 handed on, so that it is not built anew for each step.
     fn advance_in<C: CamArray>(&mut self, table: &[Element; 7], array: &mut C) -> bool
         requires table_of_mlt1 { map meant table.now ≡ mlt1 }
         ensures unless_at_end { result ≡ nat_lt 0 (length (left (C.build array.old).words (C.build array.old).width self.old)) }
@@ -76,6 +76,7 @@ impl RunState {
         ensures build_stays { C.build array.new ≡ C.build array.old }
     {
         let table = elements();
+        // a loop and no chain, since each step changes the array
         for done in 0..most {
             if !self.advance_in(&table, array) {
                 return done;
