@@ -5,8 +5,10 @@ use Rattle.cam.specs.declared.fault.Reason.{Reason}
 use Rattle.cam.specs.declared.fault.Reason.TheVariants.{OutsideArray}
 use Rattle.cam.specs.declared.index.CellIndex.{CellIndex}
 use Rattle.words.specs.declared.token.Kind.TheVariants.{Close, LineFeed}
+use Rattle.words.specs.declared.cursor.Cursor.{Cursor}
+use Rattle.words.specs.Going.{GoesOn}
 use Rattle.words.specs.Lexing.{Token}
-use Rattle.words.specs.Readings.{Gathered}
+use Rattle.words.specs.Readings.{Gathered, gathered}
 use Rattle.words.specs.Forms.{NameNext, BitNext, Next}
 use Rattle.words.specs.Remarks.{Outermost}
 use Rattle.words.proofs.Rules.{One, then_one, then_made}
@@ -143,3 +145,8 @@ line_inside N W text a r =
     then_made (LineInside N W) (λ l t y.
     then_made (LineInside N W) (λ e u z q.
     value_made (LineInside N W) _ u (then_made (LineInside N W) (λ h s x. line_body_inside N W text h.value h.to s) y) q))
+
+-- a line whose closing bracket comes next: its defect, the cursor after the line's word, and where it came to
+pub record Unclosed (N W : ℕ) (before after : Cursor) (w : LineWord) (d : Defect) : Type 0 where
+  pub goes_on : GoesOn before after
+  pub closes : (r : Result (Gathered (Option Defect)) Fault) → Closed before.text.now (gathered d after.at) r → LineBody N W before.text.now w before.at r

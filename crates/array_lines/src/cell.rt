@@ -1,5 +1,5 @@
 // What a line says of a cell or of a mark.
-ghost use Rattle.std.specs.Prelude.{◌≡◌, ◌≤◌};
+ghost use Rattle.words.specs.Going.{GoesOn};
 ghost use Rattle.words.specs.Readings.{Reading, come_to};
 ghost use Rattle.array_lines.specs.CellWords.{cell_spelling, cell_words_differ};
 ghost use Rattle.array_lines.specs.Cells.{CellFaultNext, CellNext, MarkNext};
@@ -55,8 +55,7 @@ impl Spelled for CellWord {
 // Reads what is wrong with a cell: a word, and after `wrong` the held bit and the comparand bit.
 fn read_cell_fault(cursor: &mut Cursor, cell: CellIndex) -> Result<Defect, Fault>
     ensures reading { Reading (CellFaultNext cursor.old.text.now cell cursor.old.at) (come_to cursor.new.at result) }
-    ensures text_stays { cursor.new.text.now ≡ cursor.old.text.now }
-    ensures goes_on { cursor.old.at ≤ cursor.new.at }
+    ensures goes_on { GoesOn cursor.old cursor.new }
 {
     match cursor.one_of::<CellWord>()? {
         CellWord::Storage(defect) => Ok(Defect::Storage { cell, defect }),
@@ -72,8 +71,7 @@ fn read_cell_fault(cursor: &mut Cursor, cell: CellIndex) -> Result<Defect, Fault
 // Reads what follows the word `cell`: word and column of an array of this size, each inside it (42), and what is wrong.
 pub(crate) fn read_cell(cursor: &mut Cursor, size: Size) -> Result<Defect, Fault>
     ensures reading { Reading (CellNext size.words size.width cursor.old.text.now cursor.old.at) (come_to cursor.new.at result) }
-    ensures text_stays { cursor.new.text.now ≡ cursor.old.text.now }
-    ensures goes_on { cursor.old.at ≤ cursor.new.at }
+    ensures goes_on { GoesOn cursor.old cursor.new }
 {
     let word = number_within(cursor, 0..size.words, Reason::OutsideArray)?;
     let column = number_within(cursor, 0..u16::from(size.width), Reason::OutsideArray)?;
@@ -83,8 +81,7 @@ pub(crate) fn read_cell(cursor: &mut Cursor, size: Size) -> Result<Defect, Fault
 // Reads what follows the word `mark`: a word of an array of so many (42).
 pub(crate) fn read_mark(cursor: &mut Cursor, words: u16) -> Result<Defect, Fault>
     ensures reading { Reading (MarkNext words cursor.old.text.now cursor.old.at) (come_to cursor.new.at result) }
-    ensures text_stays { cursor.new.text.now ≡ cursor.old.text.now }
-    ensures goes_on { cursor.old.at ≤ cursor.new.at }
+    ensures goes_on { GoesOn cursor.old cursor.new }
 {
     let word = number_within(cursor, 0..words, Reason::OutsideArray)?;
     Ok(Defect::Mark {

@@ -1,5 +1,5 @@
 // A whole line: a cell, a mark or a remark, with its line feed.
-ghost use Rattle.std.specs.Prelude.{◌≡◌, ◌≤◌};
+ghost use Rattle.words.specs.Going.{GoesOn};
 ghost use Rattle.words.specs.Readings.{Reading, come_to};
 ghost use Rattle.array_lines.specs.LineWords.{line_spelling, line_words_differ};
 ghost use Rattle.array_lines.specs.Lines.{BodyNext, LineNext};
@@ -37,8 +37,7 @@ impl Spelled for LineWord {
 // Reads a line up to its closing bracket: its defect, and none of a remark.
 fn read_line_body(cursor: &mut Cursor, size: Size) -> Result<Option<Defect>, Fault>
     ensures reading { Reading (BodyNext size.words size.width cursor.old.text.now cursor.old.at) (come_to cursor.new.at result) }
-    ensures text_stays { cursor.new.text.now ≡ cursor.old.text.now }
-    ensures goes_on { cursor.old.at ≤ cursor.new.at }
+    ensures goes_on { GoesOn cursor.old cursor.new }
 {
     let defect = match cursor.one_of::<LineWord>()? {
         LineWord::Note => {
@@ -55,8 +54,7 @@ fn read_line_body(cursor: &mut Cursor, size: Size) -> Result<Option<Defect>, Fau
 // Reads a line of the text of an array of this size from after its opening bracket, with its line feed.
 pub fn read_line(cursor: &mut Cursor, size: Size) -> Result<Option<Defect>, Fault>
     ensures reading { Reading (LineNext size.words size.width cursor.old.text.now cursor.old.at) (come_to cursor.new.at result) }
-    ensures text_stays { cursor.new.text.now ≡ cursor.old.text.now }
-    ensures goes_on { cursor.old.at ≤ cursor.new.at }
+    ensures goes_on { GoesOn cursor.old cursor.new }
 {
     let defect = read_line_body(cursor, size)?;
     cursor.want(Kind::LineFeed)?;

@@ -1,5 +1,6 @@
 // Numbers of an array text: words of 1 to 4 digits.
-ghost use Rattle.std.specs.Prelude.{◌≡◌, ◌≤◌, true, false, MatchOption};
+ghost use Rattle.std.specs.Prelude.{◌≡◌, true, false, MatchOption};
+ghost use Rattle.words.specs.Going.{GoesOn};
 ghost use Rattle.words.specs.Readings.{Reading, come_to};
 ghost use Rattle.array_lines.specs.Numbers.{is_numeral, numeral, NumberNext, NumberWithin};
 
@@ -39,8 +40,7 @@ fn numeral_value(word: &[u8]) -> Option<u16>
 // Reads a number.
 fn read_number(cursor: &mut Cursor) -> Result<Number, Fault>
     ensures reading { Reading (NumberNext cursor.old.text.now cursor.old.at) (come_to cursor.new.at result) }
-    ensures text_stays { cursor.new.text.now ≡ cursor.old.text.now }
-    ensures goes_on { cursor.old.at ≤ cursor.new.at }
+    ensures goes_on { GoesOn cursor.old cursor.new }
 {
     let word = cursor.any_word()?;
     let from = word.from;
@@ -51,8 +51,7 @@ fn read_number(cursor: &mut Cursor) -> Result<Number, Fault>
 // Reads a number, and asks whether it is within these limits; else it is refused for this reason.
 pub fn number_within(cursor: &mut Cursor, limits: Range<u16>, reason: Reason) -> Result<u16, Fault>
     ensures reading { Reading (NumberWithin limits.start limits.end reason cursor.old.text.now cursor.old.at) (come_to cursor.new.at result) }
-    ensures text_stays { cursor.new.text.now ≡ cursor.old.text.now }
-    ensures goes_on { cursor.old.at ≤ cursor.new.at }
+    ensures goes_on { GoesOn cursor.old cursor.new }
 {
     let number = read_number(cursor)?;
     if !limits.contains(&number.value) {

@@ -1,5 +1,5 @@
 // The first line of an array text, `(array N W`.
-ghost use Rattle.std.specs.Prelude.{◌≡◌, ◌≤◌};
+ghost use Rattle.words.specs.Going.{GoesOn};
 ghost use Rattle.words.specs.Readings.{Reading, come_to};
 ghost use Rattle.array_text.specs.Grammar.{SizeNext, FirstLineNext};
 
@@ -12,8 +12,7 @@ use words::token::{Kind, check_length};
 // Reads both numbers, 1 to 256 words and 1 to 64 bits (41), and the line feed.
 fn read_size(cursor: &mut Cursor) -> Result<Size, Fault>
     ensures reading { Reading (SizeNext cursor.old.text.now cursor.old.at) (come_to cursor.new.at result) }
-    ensures text_stays { cursor.new.text.now ≡ cursor.old.text.now }
-    ensures goes_on { cursor.old.at ≤ cursor.new.at }
+    ensures goes_on { GoesOn cursor.old cursor.new }
 {
     let words = number_within(cursor, 1..257, Reason::SizeOutsideLimits)?;
     let width = number_within(cursor, 1..65, Reason::SizeOutsideLimits)?;
@@ -27,7 +26,7 @@ fn read_size(cursor: &mut Cursor) -> Result<Size, Fault>
 // Asks whether the text is short enough, and reads its first line.
 pub(crate) fn read_first_line(cursor: &mut Cursor) -> Result<Size, Fault>
     ensures reading { Reading (FirstLineNext cursor.old.text.now cursor.old.at) (come_to cursor.new.at result) }
-    ensures text_stays { cursor.new.text.now ≡ cursor.old.text.now }
+    ensures goes_on { GoesOn cursor.old cursor.new }
 {
     check_length(cursor.text)?;
     cursor.want(Kind::Open)?;

@@ -1,7 +1,8 @@
 // The lines of an array text, read into the array.
-ghost use Rattle.std.specs.Prelude.{◌≡◌, ℕ, ◌≤◌, List, []};
+ghost use Rattle.std.specs.Prelude.{ℕ, List, []};
 ghost use Rattle.array_lines.specs.declared.cell.Defect.{Defect};
 ghost use Rattle.planes.specs.Planes.{KeepsLater};
+ghost use Rattle.words.specs.Going.{GoesOn};
 ghost use Rattle.words.specs.Readings.{reached};
 ghost use Rattle.array_text.specs.Grammar.{LineAfter, Lines, Rest};
 ghost use Rattle.array_text.specs.Left.{Holds, Leaves, RestLeaves};
@@ -19,8 +20,7 @@ use words::token::Kind;
 fn add_line(cursor: &mut Cursor, bracket: usize, array: &mut PlaneArray) -> Result<(), Fault>
     ensures reading { (N W : ℕ) (ds : List Defect) → Holds N W ds array.old → Leaves (LineAfter N W cursor.old.text.now ds bracket cursor.old.at) N W array.new (reached cursor.new.at result) }
     ensures later_records_stay { KeepsLater array.old array.new }
-    ensures text_stays { cursor.new.text.now ≡ cursor.old.text.now }
-    ensures goes_on { cursor.old.at ≤ cursor.new.at }
+    ensures goes_on { GoesOn cursor.old cursor.new }
 {
     match read_line(cursor, size_of(array))? {
         Some(defect) => plant(array, defect, bracket),
@@ -32,8 +32,7 @@ fn add_line(cursor: &mut Cursor, bracket: usize, array: &mut PlaneArray) -> Resu
 fn add_lines(cursor: &mut Cursor, array: &mut PlaneArray) -> Result<(), Fault>
     ensures reading { (N W : ℕ) (ds : List Defect) → Holds N W ds array.old → Leaves (Lines N W cursor.old.text.now ds cursor.old.at) N W array.new (reached cursor.new.at result) }
     ensures later_records_stay { KeepsLater array.old array.new }
-    ensures text_stays { cursor.new.text.now ≡ cursor.old.text.now }
-    ensures goes_on { cursor.old.at ≤ cursor.new.at }
+    ensures goes_on { GoesOn cursor.old cursor.new }
 {
     loop {
         let token = cursor.next_token()?;

@@ -5,6 +5,8 @@ use Rattle.cam.specs.declared.fault.Fault.{Fault}
 use Rattle.march.specs.declared.element.TestOperation.{TestOperation}
 use Rattle.march.specs.declared.operations.Order.{Order}
 use Rattle.words.specs.declared.token.Kind.TheVariants.{Close}
+use Rattle.words.specs.declared.cursor.Cursor.{Cursor}
+use Rattle.words.specs.Going.{GoesOn}
 use Rattle.words.specs.Lexing.{Token, Lexed, bytes_of}
 use Rattle.words.specs.Readings.{on, off, Gathered}
 use Rattle.words.specs.Forms.{not_wanted, Next, BitNext, EitherNext, NameNext, named, nameless}
@@ -79,7 +81,7 @@ pub no_word : {text : List ℕ} {a : ℕ} {f : Fault} → NameNext text a (Err f
 no_word (off x) = off x
 no_word (on x (nameless n)) = on x (unknown (λ l h. n h.kind))
 
--- what was read of an operation, whose closing bracket comes next: the text as the cursor still has it, and the place
-pub record Unclosed (text : List ℕ) (l : Letter) (a : ℕ) (o : TestOperation) (same : List ℕ) (e : ℕ) : Type 0 where
-  pub text_stays : same ≡ text
-  pub closes : (r : Result (Gathered TestOperation) Fault) → Closing o text e r → Rest text l a r
+-- what was read of an operation, whose closing bracket comes next: the cursor after the letter, and where it came to
+pub record Unclosed (before after : Cursor) (l : Letter) (o : TestOperation) : Type 0 where
+  pub goes_on : GoesOn before after
+  pub closes : (r : Result (Gathered TestOperation) Fault) → Closing o before.text.now after.at r → Rest before.text.now l before.at r

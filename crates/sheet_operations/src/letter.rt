@@ -1,5 +1,5 @@
 // The letter that an operation begins with: w, r, c or e.
-ghost use Rattle.std.specs.Prelude.{◌≡◌, ◌≤◌};
+ghost use Rattle.words.specs.Going.{GoesOn};
 ghost use Rattle.words.specs.Readings.{Reading};
 ghost use Rattle.sheet_operations.specs.Letters.{spelling, LetterNext, head_to};
 
@@ -36,8 +36,7 @@ impl Spelled for Letter {
 // Reads the letter of an operation. Answers its place too, where the meaning refuses it.
 pub fn read_letter(cursor: &mut Cursor) -> Result<(Letter, usize), Fault>
     ensures reading { Reading (LetterNext cursor.old.text.now cursor.old.at) (head_to cursor.new.at result) }
-    ensures text_stays { cursor.new.text.now ≡ cursor.old.text.now }
-    ensures goes_on { cursor.old.at ≤ cursor.new.at }
+    ensures goes_on { GoesOn cursor.old cursor.new }
 {
     let word = cursor.any_word()?;
     let letter = Letter::spelled(word.bytes).ok_or(not_wanted(word.from))?;

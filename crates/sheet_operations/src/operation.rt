@@ -1,5 +1,5 @@
 // An operation, from its opening bracket on.
-ghost use Rattle.std.specs.Prelude.{◌≡◌, ◌≤◌};
+ghost use Rattle.words.specs.Going.{GoesOn};
 ghost use Rattle.words.specs.Readings.{Reading, come_to};
 ghost use Rattle.sheet_operations.specs.Operations.{Rest, OperationAt};
 
@@ -16,8 +16,7 @@ const MOST_OPERATIONS: u8 = 8;
 // Reads what follows the letter: a bit, the expected hit of a compare, and the closing bracket.
 fn rest(cursor: &mut Cursor, letter: Letter) -> Result<TestOperation, Fault>
     ensures reading { Reading (Rest cursor.old.text.now letter cursor.old.at) (come_to cursor.new.at result) }
-    ensures text_stays { cursor.new.text.now ≡ cursor.old.text.now }
-    ensures goes_on { cursor.old.at ≤ cursor.new.at }
+    ensures goes_on { GoesOn cursor.old cursor.new }
 {
     let operation = match letter {
         Letter::Write => TestOperation::Write(cursor.bit_word()?),
@@ -41,8 +40,7 @@ pub fn read_operation(
     count: u8,
 ) -> Result<TestOperation, Fault>
     ensures reading { Reading (OperationAt order count cursor.old.text.now bracket cursor.old.at) (come_to cursor.new.at result) }
-    ensures text_stays { cursor.new.text.now ≡ cursor.old.text.now }
-    ensures goes_on { cursor.old.at ≤ cursor.new.at }
+    ensures goes_on { GoesOn cursor.old cursor.new }
 {
     check_room(count, MOST_OPERATIONS, Reason::TooManyOperations, bracket)?;
     let (letter, place) = read_letter(cursor)?;

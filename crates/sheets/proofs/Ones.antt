@@ -12,6 +12,8 @@ use Rattle.march.specs.Tests as tests
 use Rattle.march.specs.Building.{opened, order_of, operations_of}
 use Rattle.words.specs.declared.token.Kind.TheVariants.{Open, LineFeed, End}
 use Rattle.words.specs.Lexing.{Token, Measured, bytes_of}
+use Rattle.words.specs.declared.cursor.Cursor.{Cursor}
+use Rattle.words.specs.Going.{GoesOn}
 use Rattle.words.specs.Readings.{on, Gathered, gathered, leaving, result_map}
 use Rattle.words.specs.Forms.{Next, WordNext, NameNext, named}
 use Rattle.words.specs.Remarks.{Outermost}
@@ -79,10 +81,10 @@ noted text es p w a r e x = subst (λ v. LineBody text es p v a (leaving es r)) 
 pub elemental : (text : List ℕ) (es : List tests.Element) (p : ℕ) (w : LineWord) (o : Order) (a : ℕ) (r : Result (Gathered (List tests.Element)) Fault) → w ≡ Element o → ElementAt o es p text a r → LineBody text es p w a r
 elemental text es p w o a r e x = subst (λ v. LineBody text es p v a r) (sym e) x
 
--- a line whose line feed comes next: its elements, the text as the cursor still has it, and the place
-pub record Unended (text : List ℕ) (es : List tests.Element) (p : ℕ) (w : LineWord) (a : ℕ) (fs : List tests.Element) (same : List ℕ) (e : ℕ) : Type 0 where
-  pub text_stays : same ≡ text
-  pub body : LineBody text es p w a (Ok (gathered fs e))
+-- a line whose line feed comes next: its elements, the cursor after the line's word, and where it came to
+pub record Unended (before after : Cursor) (es : List tests.Element) (p : ℕ) (w : LineWord) (fs : List tests.Element) : Type 0 where
+  pub goes_on : GoesOn before after
+  pub body : LineBody before.text.now es p w before.at (Ok (gathered fs after.at))
 
 -- a word can be the name of a test
 pub name_allowed : {text : List ℕ} {a : ℕ} {t : Token} → NameNext text a (Ok t) → is_name (bytes_of text t) ≡ true

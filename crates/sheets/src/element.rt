@@ -1,6 +1,7 @@
 // An element of a sheet, from after the word of its order on.
-ghost use Rattle.std.specs.Prelude.{◌≡◌, ◌≤◌};
+ghost use Rattle.std.specs.Prelude.{◌≡◌};
 ghost use Rattle.march.specs.Table.{elements_of, name_of};
+ghost use Rattle.words.specs.Going.{GoesOn};
 ghost use Rattle.words.specs.Readings.{Reading, reached, leaving};
 ghost use Rattle.sheets.specs.Elements.{ElementAt, last_count};
 
@@ -33,8 +34,7 @@ pub(crate) fn read_element(
 ) -> Result<(), Fault>
     ensures reading { Reading (ElementAt order (elements_of test.old) bracket cursor.old.text.now cursor.old.at) (leaving (elements_of test.new) (reached cursor.new.at result)) }
     ensures name_stays { name_of test.new ≡ name_of test.old }
-    ensures text_stays { cursor.new.text.now ≡ cursor.old.text.now }
-    ensures goes_on { cursor.old.at ≤ cursor.new.at }
+    ensures goes_on { GoesOn cursor.old cursor.new }
 {
     check_room(
         test.element_count(),

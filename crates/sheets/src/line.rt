@@ -1,6 +1,7 @@
 // The lines of a sheet: elements and remarks, each with its line feed.
-ghost use Rattle.std.specs.Prelude.{◌≡◌, ◌≤◌};
+ghost use Rattle.std.specs.Prelude.{◌≡◌};
 ghost use Rattle.march.specs.Table.{elements_of, name_of};
+ghost use Rattle.words.specs.Going.{GoesOn};
 ghost use Rattle.words.specs.Readings.{Reading, reached, leaving};
 ghost use Rattle.sheets.specs.Lines.{line_spelling, LineAt, Lines};
 
@@ -41,8 +42,7 @@ impl Spelled for LineWord {
 fn read_line(cursor: &mut Cursor, bracket: usize, test: &mut Test) -> Result<(), Fault>
     ensures reading { Reading (LineAt cursor.old.text.now (elements_of test.old) bracket cursor.old.at) (leaving (elements_of test.new) (reached cursor.new.at result)) }
     ensures name_stays { name_of test.new ≡ name_of test.old }
-    ensures text_stays { cursor.new.text.now ≡ cursor.old.text.now }
-    ensures goes_on { cursor.old.at ≤ cursor.new.at }
+    ensures goes_on { GoesOn cursor.old cursor.new }
 {
     match cursor.one_of()? {
         LineWord::Note => cursor.outermost_remark()?,
@@ -56,8 +56,7 @@ fn read_line(cursor: &mut Cursor, bracket: usize, test: &mut Test) -> Result<(),
 pub(crate) fn read_lines(cursor: &mut Cursor, test: &mut Test) -> Result<(), Fault>
     ensures reading { Reading (Lines cursor.old.text.now (elements_of test.old) cursor.old.at) (leaving (elements_of test.new) (reached cursor.new.at result)) }
     ensures name_stays { name_of test.new ≡ name_of test.old }
-    ensures text_stays { cursor.new.text.now ≡ cursor.old.text.now }
-    ensures goes_on { cursor.old.at ≤ cursor.new.at }
+    ensures goes_on { GoesOn cursor.old cursor.new }
 {
     loop {
         let token = cursor.next_token()?;

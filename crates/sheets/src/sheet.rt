@@ -1,8 +1,9 @@
 // A whole sheet.
-ghost use Rattle.std.specs.Prelude.{◌≡◌, ◌≤◌, true, IfOk};
+ghost use Rattle.std.specs.Prelude.{◌≡◌, true, IfOk};
 ghost use Rattle.march.specs.Building.{is_whole};
 ghost use Rattle.march.specs.Names.{letters_of};
 ghost use Rattle.march.specs.Table.{elements_of};
+ghost use Rattle.words.specs.Going.{GoesOn};
 ghost use Rattle.words.specs.Readings.{Reading, come_to, result_map};
 ghost use Rattle.sheets.specs.Sheets.{TitleNext, SheetText, sheet_of};
 
@@ -16,8 +17,7 @@ use words::token::{Kind, check_length};
 // Reads the first line, `(test NAME`. Answers the test's name.
 fn read_title(cursor: &mut Cursor) -> Result<Name, Fault>
     ensures reading { Reading (TitleNext cursor.old.text.now cursor.old.at) (come_to cursor.new.at (result_map letters_of result)) }
-    ensures text_stays { cursor.new.text.now ≡ cursor.old.text.now }
-    ensures goes_on { cursor.old.at ≤ cursor.new.at }
+    ensures goes_on { GoesOn cursor.old cursor.new }
 {
     cursor.want(Kind::Open)?;
     cursor.want_word(b"test")?;

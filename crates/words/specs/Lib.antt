@@ -1,4 +1,5 @@
 pub mod Readings
+pub mod Going
 pub mod Lexing
 pub mod Tokens
 pub mod Forms

@@ -1,5 +1,5 @@
 // A reader's place in a text, and layer 1: which token stands there next, or which fault.
-ghost use Rattle.std.specs.Prelude.{◌≡◌, ℕ, ◌≤◌, Bool, List, length, drop, IfOk};
+ghost use Rattle.std.specs.Prelude.{◌≡◌, ℕ, ◌≤◌, Bool, length, drop, IfOk};
 ghost use Rattle.std.specs.List.{prefix_len};
 ghost use Rattle.words.specs.Lexing.{word_fault, Skips, WordAt, TokenAt, Lexed, Lies, bytes_of};
 ghost use Rattle.words.specs.Readings.{Reading};
@@ -28,6 +28,9 @@ fn run_length<F: Fn(u8) -> bool>(bytes: &[u8], passes: F) -> usize
 }
 
 impl<'a> Cursor<'a> {
+    // here and not at the top, since it speaks of the cursor, whose ghost field imports what the top does
+    ghost use Rattle.words.specs.Going.{GoesOn};
+
     // The front of a text.
     pub fn new(text: &'a [u8]) -> Cursor<'a>
         ensures whole_text { result.text.now ≡ text.now }
@@ -57,7 +60,7 @@ impl<'a> Cursor<'a> {
     // Passes the spaces that come next.
     fn skip_spaces(&mut self)
         ensures spaces_skipped { Skips self.old.text.now self.old.at self.new.at }
-        ensures text_stays { self.new.text.now ≡ self.old.text.now }
+        ensures goes_on { GoesOn self.old self.new }
     {
         self.at += run_length(self.rest(), |byte| byte == b' ');
     }
@@ -91,8 +94,7 @@ impl<'a> Cursor<'a> {
         ensures reading { Reading (Lexed self.old.text.now self.old.at) (lexed_to self.new.at result) }
         ensures lies { IfOk result (λ t. Lies self.old.text.now self.old.at (token_to self.new.at t)) }
         ensures spelling { IfOk result (λ t. t.bytes.now ≡ bytes_of self.old.text.now (token_to self.new.at t)) }
-        ensures text_stays { self.new.text.now ≡ self.old.text.now }
-        ensures goes_on { self.old.at ≤ self.new.at }
+        ensures goes_on { GoesOn self.old self.new }
     {
         self.skip_spaces();
         let from = self.at;

@@ -1,7 +1,8 @@
 // Layer 2, its smallest parts: readers of one token that the grammar wants.
-ghost use Rattle.std.specs.Prelude.{◌≡◌, ℕ, ◌≤◌, List, IfOk, MatchOption};
+ghost use Rattle.std.specs.Prelude.{◌≡◌, ℕ, List, IfOk, MatchOption};
 ghost use Rattle.words.specs.Choosing.{OneOfNext};
 ghost use Rattle.words.specs.Forms.{not_wanted, Next, WordNext, NameNext, EitherNext, BitNext};
+ghost use Rattle.words.specs.Going.{GoesOn};
 ghost use Rattle.words.specs.Lexing.{Lies, bytes_of};
 ghost use Rattle.words.specs.Readings.{Reading, come_to, reached};
 ghost use Rattle.words.specs.Tokens.{token_to, lexed_to};
@@ -36,8 +37,7 @@ impl<'a> Cursor<'a> {
     // Reads the bracket, the line feed or the end that must come next.
     pub fn want(&mut self, kind: Kind) -> Result<(), Fault>
         ensures reading { Reading (Next kind self.old.text.now self.old.at) (reached self.new.at result) }
-        ensures text_stays { self.new.text.now ≡ self.old.text.now }
-        ensures goes_on { self.old.at ≤ self.new.at }
+        ensures goes_on { GoesOn self.old self.new }
     {
         let token = self.next_token()?;
         if token.kind == kind {
@@ -50,8 +50,7 @@ impl<'a> Cursor<'a> {
     // Reads the word that must come next.
     pub fn want_word(&mut self, word: &[u8]) -> Result<(), Fault>
         ensures reading { Reading (WordNext word.now self.old.text.now self.old.at) (reached self.new.at result) }
-        ensures text_stays { self.new.text.now ≡ self.old.text.now }
-        ensures goes_on { self.old.at ≤ self.new.at }
+        ensures goes_on { GoesOn self.old self.new }
     {
         let token = self.next_token()?;
         if token.spells(word) {
@@ -66,8 +65,7 @@ impl<'a> Cursor<'a> {
         ensures reading { Reading (NameNext self.old.text.now self.old.at) (lexed_to self.new.at result) }
         ensures lies { IfOk result (λ t. Lies self.old.text.now self.old.at (token_to self.new.at t)) }
         ensures spelling { IfOk result (λ t. t.bytes.now ≡ bytes_of self.old.text.now (token_to self.new.at t)) }
-        ensures text_stays { self.new.text.now ≡ self.old.text.now }
-        ensures goes_on { self.old.at ≤ self.new.at }
+        ensures goes_on { GoesOn self.old self.new }
     {
         let token = self.next_token()?;
         match token.kind {
@@ -79,8 +77,7 @@ impl<'a> Cursor<'a> {
     // Reads the value that the next word writes.
     pub fn one_of<T: Spelled + Drop>(&mut self) -> Result<T, Fault>
         ensures reading { Reading (OneOfNext T.spelling self.old.text.now self.old.at) (come_to self.new.at result) }
-        ensures text_stays { self.new.text.now ≡ self.old.text.now }
-        ensures goes_on { self.old.at ≤ self.new.at }
+        ensures goes_on { GoesOn self.old self.new }
     {
         let word = self.any_word()?;
         T::spelled(word.bytes).ok_or(not_wanted(word.from))
@@ -89,8 +86,7 @@ impl<'a> Cursor<'a> {
     // Reads which of two words comes next.
     pub fn either_word(&mut self, no: &[u8], yes: &[u8]) -> Result<bool, Fault>
         ensures reading { Reading (EitherNext no.now yes.now self.old.text.now self.old.at) (come_to self.new.at result) }
-        ensures text_stays { self.new.text.now ≡ self.old.text.now }
-        ensures goes_on { self.old.at ≤ self.new.at }
+        ensures goes_on { GoesOn self.old self.new }
     {
         let token = self.next_token()?;
         if token.spells(no) {
@@ -105,8 +101,7 @@ impl<'a> Cursor<'a> {
     // Reads the bit that comes next: the word 0 or the word 1.
     pub fn bit_word(&mut self) -> Result<bool, Fault>
         ensures reading { Reading (BitNext self.old.text.now self.old.at) (come_to self.new.at result) }
-        ensures text_stays { self.new.text.now ≡ self.old.text.now }
-        ensures goes_on { self.old.at ≤ self.new.at }
+        ensures goes_on { GoesOn self.old self.new }
     {
         self.either_word(b"0", b"1")
     }

@@ -1,5 +1,5 @@
 // Remarks: `(note`, then words and inner remarks, then `)`.
-ghost use Rattle.std.specs.Prelude.{◌≡◌, ◌≤◌};
+ghost use Rattle.words.specs.Going.{GoesOn};
 ghost use Rattle.words.specs.Readings.{Reading, reached};
 ghost use Rattle.words.specs.Remarks.{Remark, Outermost};
 
@@ -15,8 +15,7 @@ impl Cursor<'_> {
     // Reads an outermost remark from after its word `note`, up to the place after its bracket.
     pub fn outermost_remark(&mut self) -> Result<(), Fault>
         ensures reading { Reading (Outermost self.old.text.now self.old.at) (reached self.new.at result) }
-        ensures text_stays { self.new.text.now ≡ self.old.text.now }
-        ensures goes_on { self.old.at ≤ self.new.at }
+        ensures goes_on { GoesOn self.old self.new }
     {
         self.remark(INNER_DEPTH)
     }
@@ -24,8 +23,7 @@ impl Cursor<'_> {
     // Reads a remark from after its word `note`. So many more may open inside it, each in the one before.
     fn remark(&mut self, inner: u8) -> Result<(), Fault>
         ensures reading { Reading (Remark self.old.text.now inner self.old.at) (reached self.new.at result) }
-        ensures text_stays { self.new.text.now ≡ self.old.text.now }
-        ensures goes_on { self.old.at ≤ self.new.at }
+        ensures goes_on { GoesOn self.old self.new }
     {
         loop {
             let token = self.next_token()?;

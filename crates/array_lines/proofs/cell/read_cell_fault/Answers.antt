@@ -25,21 +25,21 @@ returns-in-Storage-clause-reading c =
 pub returns-in_err-held-in-Wrong-clause-reading : goal.returns-in_err-held-in-Wrong-clause-reading
 returns-in_err-held-in-Wrong-clause-reading c =
     let x = c.in_ok-defect.ensures in
-    let h = rw x.text_stays at c.in_err-held-in-Wrong.ensures.reading.reads in
+    let h = rw x.goes_on.text_stays at c.in_err-held-in-Wrong.ensures.reading.reads in
     rw (same_fault _ c.from_residual-in_err-held-in-Wrong.ensures.1) (pinned (cell_fault_next_one _ _ _) (on x.reading.reads (after_word _ _ _ Wrong _ _ c.in-Wrong.is (off h))))
 
 pub returns-in_err-comparand-in-Wrong-clause-reading : goal.returns-in_err-comparand-in-Wrong-clause-reading
 returns-in_err-comparand-in-Wrong-clause-reading c =
     let x = c.in_ok-defect.ensures in
     let y = c.in_ok-held-in-Wrong.ensures in
-    let h = rw x.text_stays at y.reading.reads in
-    let b = rw (y.text_stays, x.text_stays) at c.in_err-comparand-in-Wrong.ensures.reading.reads in
+    let h = rw x.goes_on.text_stays at y.reading.reads in
+    let b = rw (y.goes_on.text_stays, x.goes_on.text_stays) at c.in_err-comparand-in-Wrong.ensures.reading.reads in
     rw (same_fault _ c.from_residual-in_err-comparand-in-Wrong.ensures.1) (pinned (cell_fault_next_one _ _ _) (on x.reading.reads (after_word _ _ _ Wrong _ _ c.in-Wrong.is (on h (off b)))))
 
 pub returns-in_ok-comparand-in-Wrong-clause-reading : goal.returns-in_ok-comparand-in-Wrong-clause-reading
 returns-in_ok-comparand-in-Wrong-clause-reading c =
     let x = c.in_ok-defect.ensures in
     let y = c.in_ok-held-in-Wrong.ensures in
-    let h = rw x.text_stays at y.reading.reads in
-    let b = rw (y.text_stays, x.text_stays) at c.in_ok-comparand-in-Wrong.ensures.reading.reads in
+    let h = rw x.goes_on.text_stays at y.reading.reads in
+    let b = rw (y.goes_on.text_stays, x.goes_on.text_stays) at c.in_ok-comparand-in-Wrong.ensures.reading.reads in
     pinned (cell_fault_next_one _ _ _) (on x.reading.reads (after_word _ _ _ Wrong _ _ c.in-Wrong.is (on h (on b refl))))

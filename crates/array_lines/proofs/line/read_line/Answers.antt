@@ -11,11 +11,11 @@ returns-in_err-defect-clause-reading c =
 pub returns-in_err-want-clause-reading : goal.returns-in_err-want-clause-reading
 returns-in_err-want-clause-reading c =
     let l = c.in_ok-defect.ensures in
-    let e = rw l.text_stays at c.in_err-want.ensures.reading.reads in
+    let e = rw l.goes_on.text_stays at c.in_err-want.ensures.reading.reads in
     rw (same_fault _ c.from_residual-in_err-want.ensures.1) (pinned (line_one _ _ _ _) (on l.reading.reads (off e)))
 
 pub returns-clause-reading : goal.returns-clause-reading
 returns-clause-reading c =
     let l = c.in_ok-defect.ensures in
-    let e = rw l.text_stays at c.in_ok-want.ensures.reading.reads in
+    let e = rw l.goes_on.text_stays at c.in_ok-want.ensures.reading.reads in
     pinned (line_one _ _ _ _) (on l.reading.reads (on e refl))

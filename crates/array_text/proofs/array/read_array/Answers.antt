@@ -46,7 +46,7 @@ returns-in-Ok-add_rest c =
     let first = rw (front.whole_text, front.at_the_front) at c.in-Ok.ensures.reading in
     let made = c.in_ok-array.ensures in
     let s = first_line_sized _ _ first.reads in
-    let left = rw (c.in-Ok.ensures.text_stays, front.whole_text) at c.in-Ok-add_rest.ensures.reading in
+    let left = rw (c.in-Ok.ensures.goes_on.text_stays, front.whole_text) at c.in-Ok-add_rest.ensures.reading in
     let x = left _ _ (record { build = made.made_flawless; state = made.made_cleared; distinct = tt; inside = tt }) in
     let h = x.1.1 in
     record {
@@ -75,7 +75,7 @@ returns-in-Err-add_rest c =
     let later = later_of n c.in_ok-array.array p (vec_items c.args.records) c.in-Err-add_rest.ensures.later_records_stay made.later_records_stay (omega (arith, s.few_words, c.args.records.ok.0)) (ap (λ B. B.words) made.made_flawless) in
     let given = c.given_up.ensures.words_blank_others_stay (omega (arith, s.some_words)) ∙ ap (λ (k : ℕ). blanked k (vec_items p.records)) words
     ∙ blanked_same n (vec_items p.records) (vec_items c.args.records) (omega (arith, p.records.ok.0)) (omega (arith, s.few_words, c.args.records.ok.0)) later in
-    let left = rw (c.in-Ok.ensures.text_stays, front.whole_text) at c.in-Err-add_rest.ensures.reading in
+    let left = rw (c.in-Ok.ensures.goes_on.text_stays, front.whole_text) at c.in-Err-add_rest.ensures.reading in
     let x = left _ _ (record { build = made.made_flawless; state = made.made_cleared; distinct = tt; inside = tt }) in
     record {
       text_read = pinned (call_one _ _) (on (enough (omega arith)) (on first.reads (off x)));

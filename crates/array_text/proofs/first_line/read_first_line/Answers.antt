@@ -14,12 +14,12 @@ returns-in_err-want-clause-reading c =
 pub returns-in_err-want_word-clause-reading : goal.returns-in_err-want_word-clause-reading
 returns-in_err-want_word-clause-reading c =
     let o = c.in_ok-want.ensures in
-    let n = rw o.text_stays at c.in_err-want_word.ensures.reading.reads in
+    let n = rw o.goes_on.text_stays at c.in_err-want_word.ensures.reading.reads in
     rw (same_fault _ c.from_residual-in_err-want_word.ensures.1) (pinned (first_line_one _ _) (on c.in_ok-check_length.ensures.reading.reads (on o.reading.reads (off n))))
 
 pub returns-clause-reading : goal.returns-clause-reading
 returns-clause-reading c =
     let o = c.in_ok-want.ensures in
-    let n = rw o.text_stays at c.in_ok-want_word.ensures.reading.reads in
-    let s = rw (c.in_ok-want_word.ensures.text_stays, o.text_stays) at c.read_size.ensures.reading.reads in
+    let n = rw o.goes_on.text_stays at c.in_ok-want_word.ensures.reading.reads in
+    let s = rw (c.in_ok-want_word.ensures.goes_on.text_stays, o.goes_on.text_stays) at c.read_size.ensures.reading.reads in
     pinned (first_line_one _ _) (on c.in_ok-check_length.ensures.reading.reads (on o.reading.reads (on n s)))

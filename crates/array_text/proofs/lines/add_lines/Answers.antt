@@ -1,5 +1,5 @@
-use Rattle.std.proofs.Common.{◌∙◌, arith}
 use Rattle.words.specs.Listings.{shut, more, lexed, other, piece}
+use Rattle.words.proofs.Going.{goes_further}
 use Rattle.words.proofs.Rules.{same_fault}
 use Rattle.array_text.proofs.Later.{keeps_on}
 use Rattle.array_text.proofs.lines.add_lines.Goals as goal
@@ -7,13 +7,13 @@ use Rattle.array_text.proofs.lines.add_lines.Goals as goal
 pub returns-in_err-token-clause-reading : goal.returns-in_err-token-clause-reading
 returns-in_err-token-clause-reading c =
     let i = c.loop-token.invariant in
-    let x = rw i.text_stays at c.in_err-token.ensures.reading.reads in
+    let x = rw i.goes_on.text_stays at c.in_err-token.ensures.reading.reads in
     rw (same_fault _ c.from_residual.ensures.1) (λ N W ds h. (i.rest N W ds h).1.1 _ (lexed x))
 
 pub returns-in-Close-clause-reading : goal.returns-in-Close-clause-reading
 returns-in-Close-clause-reading c = λ N W ds h.
     let i = c.loop-token.invariant in
-    let x = rw i.text_stays at c.in_ok-token.ensures.reading.reads in
+    let x = rw i.goes_on.text_stays at c.in_ok-token.ensures.reading.reads in
     let y = i.rest N W ds h in
     (y.0, (y.1.1 _ (shut x c.in-Close.is tt), y.1.0))
 
@@ -21,8 +21,8 @@ pub returns-in_err-add_line-in-Open-clause-reading : goal.returns-in_err-add_lin
 returns-in_err-add_line-in-Open-clause-reading c =
     let i = c.loop-token.invariant in
     let t = c.in_ok-token.ensures in
-    let x = rw i.text_stays at t.reading.reads in
-    let l = rw (t.text_stays, i.text_stays) at c.in_err-add_line-in-Open.ensures.reading in
+    let x = rw i.goes_on.text_stays at t.reading.reads in
+    let l = rw (t.goes_on.text_stays, i.goes_on.text_stays) at c.in_err-add_line-in-Open.ensures.reading in
     rw (same_fault _ c.from_residual-in_err-add_line-in-Open.ensures.1) (λ N W ds h.
     let y = i.rest N W ds h in
     y.1.1 _ (piece x c.in-Open.is (l N W y.0 y.1.0)))
@@ -32,11 +32,10 @@ loop-token-preserved c =
     let i = c.loop-token.invariant in
     let t = c.in_ok-token.ensures in
     let a = c.in_ok-add_line-in-Open.ensures in
-    let x = rw i.text_stays at t.reading.reads in
-    let l = rw (t.text_stays, i.text_stays) at a.reading in
+    let x = rw i.goes_on.text_stays at t.reading.reads in
+    let l = rw (t.goes_on.text_stays, i.goes_on.text_stays) at a.reading in
     record {
-      text_stays = a.text_stays ∙ t.text_stays ∙ i.text_stays;
-      goes_on = omega (arith, i.goes_on, t.goes_on, a.goes_on);
+      goes_on = goes_further i.goes_on (goes_further t.goes_on a.goes_on);
       rest = λ N W ds h.
           let y = i.rest N W ds h in
           let z = l N W y.0 y.1.0 in
@@ -44,14 +43,8 @@ loop-token-preserved c =
       later = keeps_on _ _ _ i.later a.later_records_stay;
     }
 
-pub returns-in_default : goal.returns-in_default
-returns-in_default c =
+pub returns-in_default-clause-reading : goal.returns-in_default-clause-reading
+returns-in_default-clause-reading c =
     let i = c.loop-token.invariant in
-    let t = c.in_ok-token.ensures in
-    let x = rw i.text_stays at t.reading.reads in
-    rw c.not_wanted.ensures.not_wanted_there record {
-      reading = λ N W ds h. (i.rest N W ds h).1.1 _ (other x c.in_default.not-Close c.in_default.not-Open);
-      later_records_stay = i.later;
-      text_stays = t.text_stays ∙ i.text_stays;
-      goes_on = omega (arith, i.goes_on, t.goes_on);
-    }
+    let x = rw i.goes_on.text_stays at c.in_ok-token.ensures.reading.reads in
+    rw c.not_wanted.ensures.not_wanted_there (λ N W ds h. (i.rest N W ds h).1.1 _ (other x c.in_default.not-Close c.in_default.not-Open))

@@ -17,5 +17,5 @@ returns-in_err-check_allowed-clause-reading c =
 
 pub returns-clause-reading : goal.returns-clause-reading
 returns-clause-reading c =
-    let r = rw c.in_ok-letter.ensures.text_stays at c.rest.ensures.reading.reads in
+    let r = rw c.in_ok-letter.ensures.goes_on.text_stays at c.rest.ensures.reading.reads in
     pinned (operation_one _ _ _ _ _) (on c.in_ok-check_room.ensures.reading.reads (on c.in_ok-letter.ensures.reading.reads (on c.in_ok-check_allowed.ensures.reading.reads r)))

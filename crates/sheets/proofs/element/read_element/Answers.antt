@@ -2,6 +2,7 @@ use Rattle.std.proofs.Common.{Ok, refl, ap, ◌∙◌, arith}
 use Rattle.march.specs.Building.{longer}
 use Rattle.words.specs.Readings.{on, off, gathered}
 use Rattle.words.specs.Listings.{shut, more, lexed, too_few, other, piece}
+use Rattle.words.proofs.Going.{goes_further}
 use Rattle.words.proofs.Rules.{pinned, same_fault}
 use Rattle.sheets.proofs.Growing.{at_element, taken, longer_ending, longer_order, count_at_end}
 use Rattle.sheets.proofs.Ones.{element_one}
@@ -17,14 +18,14 @@ pub returns-in_err-token-clause-reading : goal.returns-in_err-token-clause-readi
 returns-in_err-token-clause-reading c =
     let i = c.loop-token.invariant in
     let m = rw c.element_count.ensures.how_many_elements at c.in_ok-check_room.ensures.reading.reads in
-    let x = rw i.text_stays at c.in_err-token.ensures.reading.reads in
+    let x = rw i.goes_on.text_stays at c.in_err-token.ensures.reading.reads in
     rw (same_fault _ c.from_residual-in_err-token.ensures.1) (pinned (element_one _ _ _ _ _) (on m (off (i.rest _ (lexed x)))))
 
 pub returns-in-Close-clause-reading : goal.returns-in-Close-clause-reading
 returns-in-Close-clause-reading c =
     let i = c.loop-token.invariant in
     let m = rw c.element_count.ensures.how_many_elements at c.in_ok-check_room.ensures.reading.reads in
-    let x = rw i.text_stays at c.in_ok-token.ensures.reading.reads in
+    let x = rw i.goes_on.text_stays at c.in_ok-token.ensures.reading.reads in
     let n = c.last_operation_count-count.ensures.operations_of_the_last ∙ count_at_end _ _ i.ending in
     pinned (element_one _ _ _ _ _) (on m (on (i.rest _ (shut x c.in-Close.is (omega (arith, n, c.if-count-gt0.true)))) (ap (λ es. Ok (gathered es c.next_token.new.self.at)) i.ending)))
 
@@ -33,9 +34,9 @@ returns-in_err-operation-in-Open-clause-reading c =
     let i = c.loop-token.invariant in
     let m = rw c.element_count.ensures.how_many_elements at c.in_ok-check_room.ensures.reading.reads in
     let t = c.in_ok-token.ensures in
-    let x = rw i.text_stays at t.reading.reads in
+    let x = rw i.goes_on.text_stays at t.reading.reads in
     let n = c.last_operation_count-count.ensures.operations_of_the_last ∙ count_at_end _ _ i.ending in
-    let o = rw (t.text_stays, i.text_stays) at c.in_err-operation-in-Open.ensures.reading.reads in
+    let o = rw (t.goes_on.text_stays, i.goes_on.text_stays) at c.in_err-operation-in-Open.ensures.reading.reads in
     rw (same_fault _ c.from_residual-in_err-operation-in-Open.ensures.1) (pinned (element_one _ _ _ _ _) (on m (off (i.rest _ (piece x c.in-Open.is (off (at_element _ i.ordered n o)))))))
 
 pub returns-in_err-add_operation-in-Open-clause-reading : goal.returns-in_err-add_operation-in-Open-clause-reading
@@ -48,13 +49,12 @@ pub loop-token-preserved : goal.loop-token-preserved
 loop-token-preserved c =
     let i = c.loop-token.invariant in
     let t = c.in_ok-token.ensures in
-    let x = rw i.text_stays at t.reading.reads in
+    let x = rw i.goes_on.text_stays at t.reading.reads in
     let n = c.last_operation_count-count.ensures.operations_of_the_last ∙ count_at_end _ _ i.ending in
-    let o = rw (t.text_stays, i.text_stays) at c.in_ok-operation-in-Open.ensures.reading.reads in
+    let o = rw (t.goes_on.text_stays, i.goes_on.text_stays) at c.in_ok-operation-in-Open.ensures.reading.reads in
     let a = c.in_ok-add_operation-in-Open.ensures in
     record {
-      text_stays = c.in_ok-operation-in-Open.ensures.text_stays ∙ t.text_stays ∙ i.text_stays;
-      goes_on = omega (arith, i.goes_on, t.goes_on, c.in_ok-operation-in-Open.ensures.goes_on);
+      goes_on = goes_further i.goes_on (goes_further t.goes_on c.in_ok-operation-in-Open.ensures.goes_on);
       name_stays = a.name_stays ∙ i.name_stays;
       element = longer i.element c.in_ok-operation-in-Open.operation;
       ending = longer_ending _ _ _ i.ending a.last_element_longer;
@@ -67,7 +67,7 @@ returns-in_default-clause-reading c =
     let i = c.loop-token.invariant in
     let m = rw c.element_count.ensures.how_many_elements at c.in_ok-check_room.ensures.reading.reads in
     let t = c.in_ok-token.ensures in
-    let x = rw i.text_stays at t.reading.reads in
+    let x = rw i.goes_on.text_stays at t.reading.reads in
     let n = c.last_operation_count-count.ensures.operations_of_the_last ∙ count_at_end _ _ i.ending in
     rw c.not_wanted.ensures.not_wanted_there
     (pinned (element_one _ _ _ _ _) (on m (off (i.rest _ (elim c.in_default.branch [

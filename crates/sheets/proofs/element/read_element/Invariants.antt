@@ -1,8 +1,9 @@
-use Rattle.std.proofs.Common.{◌≡◌, ◌-◌, ◌≤◌, [], ◌∷◌, ◌++◌, length, Result}
+use Rattle.std.proofs.Common.{◌≡◌, ◌-◌, [], ◌∷◌, ◌++◌, length, Result}
 use Rattle.cam.specs.declared.fault.Fault.{Fault}
 use Rattle.march.specs.Tests.{Element}
 use Rattle.march.specs.Building.{opened, order_of}
 use Rattle.march.specs.Table.{elements_of, name_of}
+use Rattle.words.specs.Going.{GoesOn}
 use Rattle.words.specs.Readings.{Gathered}
 use Rattle.sheets.specs.Elements.{Inside}
 use Rattle.sheets.proofs.element.read_element.Given as goal
@@ -10,8 +11,7 @@ use Rattle.sheets.proofs.element.read_element.Given as goal
 -- the test has one element more, at its end; what the rest gives, the whole element gives
 abbrev pub invariant-loop-token : goal.invariant-loop-token
 invariant-loop-token l = record {
-  text_stays : l.cursor.text.now ≡ l.fn.cursor.text.now;
-  goes_on : l.fn.cursor.at ≤ l.cursor.at;
+  goes_on : GoesOn l.fn.cursor l.cursor;
   name_stays : name_of l.test ≡ name_of l.fn.test;
   element : Element;
   ending : elements_of l.test ≡ elements_of l.fn.test ++ (element ∷ []);

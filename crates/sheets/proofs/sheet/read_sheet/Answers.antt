@@ -24,7 +24,7 @@ returns-in_err-read_lines-clause-reading c =
     let n = c.new-cursor.ensures in
     let t = c.in_ok-name.ensures in
     let h = rw (n.whole_text, n.at_the_front) at t.reading.reads in
-    let b = rw (t.text_stays, n.whole_text, c.named-test.ensures.no_element) at c.in_err-read_lines.ensures.reading.reads in
+    let b = rw (t.goes_on.text_stays, n.whole_text, c.named-test.ensures.no_element) at c.in_err-read_lines.ensures.reading.reads in
     rw (same_fault _ c.from_residual-in_err-read_lines.ensures.1) (pinned (sheet_one _) (on (on k h) (off b)))
 
 pub returns-in_err-want-clause-reading : goal.returns-in_err-want-clause-reading
@@ -34,8 +34,8 @@ returns-in_err-want-clause-reading c =
     let t = c.in_ok-name.ensures in
     let h = rw (n.whole_text, n.at_the_front) at t.reading.reads in
     let l = c.in_ok-read_lines.ensures in
-    let b = rw (t.text_stays, n.whole_text, c.named-test.ensures.no_element) at l.reading.reads in
-    let e = rw (l.text_stays, t.text_stays, n.whole_text) at c.in_err-want.ensures.reading.reads in
+    let b = rw (t.goes_on.text_stays, n.whole_text, c.named-test.ensures.no_element) at l.reading.reads in
+    let e = rw (l.goes_on.text_stays, t.goes_on.text_stays, n.whole_text) at c.in_err-want.ensures.reading.reads in
     rw (same_fault _ c.from_residual-in_err-want.ensures.1) (pinned (sheet_one _) (on (on k h) (on b (off e))))
 
 pub returns-in_err-want-2-clause-reading : goal.returns-in_err-want-2-clause-reading
@@ -45,10 +45,10 @@ returns-in_err-want-2-clause-reading c =
     let t = c.in_ok-name.ensures in
     let h = rw (n.whole_text, n.at_the_front) at t.reading.reads in
     let l = c.in_ok-read_lines.ensures in
-    let b = rw (t.text_stays, n.whole_text, c.named-test.ensures.no_element) at l.reading.reads in
+    let b = rw (t.goes_on.text_stays, n.whole_text, c.named-test.ensures.no_element) at l.reading.reads in
     let f = c.in_ok-want.ensures in
-    let e = rw (l.text_stays, t.text_stays, n.whole_text) at f.reading.reads in
-    let g = rw (f.text_stays, l.text_stays, t.text_stays, n.whole_text) at c.in_err-want-2.ensures.reading.reads in
+    let e = rw (l.goes_on.text_stays, t.goes_on.text_stays, n.whole_text) at f.reading.reads in
+    let g = rw (f.goes_on.text_stays, l.goes_on.text_stays, t.goes_on.text_stays, n.whole_text) at c.in_err-want-2.ensures.reading.reads in
     rw (same_fault _ c.from_residual-in_err-want-2.ensures.1) (pinned (sheet_one _) (on (on k h) (on b (on e (off g)))))
 
 pub returns : goal.returns
@@ -58,10 +58,10 @@ returns c =
     let t = c.in_ok-name.ensures in
     let h = rw (n.whole_text, n.at_the_front) at t.reading.reads in
     let l = c.in_ok-read_lines.ensures in
-    let b = rw (t.text_stays, n.whole_text, c.named-test.ensures.no_element) at l.reading.reads in
+    let b = rw (t.goes_on.text_stays, n.whole_text, c.named-test.ensures.no_element) at l.reading.reads in
     let f = c.in_ok-want.ensures in
-    let e = rw (l.text_stays, t.text_stays, n.whole_text) at f.reading.reads in
-    let g = rw (f.text_stays, l.text_stays, t.text_stays, n.whole_text) at c.in_ok-want-2.ensures.reading.reads in
+    let e = rw (l.goes_on.text_stays, t.goes_on.text_stays, n.whole_text) at f.reading.reads in
+    let g = rw (f.goes_on.text_stays, l.goes_on.text_stays, t.goes_on.text_stays, n.whole_text) at c.in_ok-want-2.ensures.reading.reads in
     let named = l.name_stays ∙ c.named-test.ensures.its_name in
     let made = ap (λ n. Ok (record { name = n; elements = elements_of c.read_lines.new.test })) named in
     let z = on (on k h) (on b (on e (on g made))) in

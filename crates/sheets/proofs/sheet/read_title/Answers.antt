@@ -11,15 +11,15 @@ returns-in_err-want-clause-reading c =
 pub returns-in_err-want_word-clause-reading : goal.returns-in_err-want_word-clause-reading
 returns-in_err-want_word-clause-reading c =
     let a = c.in_ok-want.ensures in
-    let x = rw a.text_stays at c.in_err-want_word.ensures.reading.reads in
+    let x = rw a.goes_on.text_stays at c.in_err-want_word.ensures.reading.reads in
     rw (same_fault _ c.from_residual-in_err-want_word.ensures.1) (pinned (title_one _ _) (on a.reading.reads (off x)))
 
 pub returns-in_err-name-clause-reading : goal.returns-in_err-name-clause-reading
 returns-in_err-name-clause-reading c =
     let a = c.in_ok-want.ensures in
     let b = c.in_ok-want_word.ensures in
-    let y = rw a.text_stays at b.reading.reads in
-    let z = rw (b.text_stays, a.text_stays) at c.in_err-name.ensures.reading.reads in
+    let y = rw a.goes_on.text_stays at b.reading.reads in
+    let z = rw (b.goes_on.text_stays, a.goes_on.text_stays) at c.in_err-name.ensures.reading.reads in
     rw (same_fault _ c.from_residual-in_err-name.ensures.1) (pinned (title_one _ _) (on a.reading.reads (on y (off z))))
 
 pub returns-in_err-want-2-clause-reading : goal.returns-in_err-want-2-clause-reading
@@ -27,9 +27,9 @@ returns-in_err-want-2-clause-reading c =
     let a = c.in_ok-want.ensures in
     let b = c.in_ok-want_word.ensures in
     let n = c.in_ok-name.ensures in
-    let y = rw a.text_stays at b.reading.reads in
-    let z = rw (b.text_stays, a.text_stays) at n.reading.reads in
-    let f = rw (n.text_stays, b.text_stays, a.text_stays) at c.in_err-want-2.ensures.reading.reads in
+    let y = rw a.goes_on.text_stays at b.reading.reads in
+    let z = rw (b.goes_on.text_stays, a.goes_on.text_stays) at n.reading.reads in
+    let f = rw (n.goes_on.text_stays, b.goes_on.text_stays, a.goes_on.text_stays) at c.in_err-want-2.ensures.reading.reads in
     rw (same_fault _ c.from_residual-in_err-want-2.ensures.1) (pinned (title_one _ _) (on a.reading.reads (on y (on z (off f)))))
 
 pub returns-clause-reading : goal.returns-clause-reading
@@ -37,9 +37,9 @@ returns-clause-reading c =
     let a = c.in_ok-want.ensures in
     let b = c.in_ok-want_word.ensures in
     let n = c.in_ok-name.ensures in
-    let y = rw a.text_stays at b.reading.reads in
-    let z = rw (b.text_stays, a.text_stays) at n.reading.reads in
-    let f = rw (n.text_stays, b.text_stays, a.text_stays) at c.in_ok-want-2.ensures.reading.reads in
-    let s = rw (b.text_stays, a.text_stays) at n.spelling in
+    let y = rw a.goes_on.text_stays at b.reading.reads in
+    let z = rw (b.goes_on.text_stays, a.goes_on.text_stays) at n.reading.reads in
+    let f = rw (n.goes_on.text_stays, b.goes_on.text_stays, a.goes_on.text_stays) at c.in_ok-want-2.ensures.reading.reads in
+    let s = rw (b.goes_on.text_stays, a.goes_on.text_stays) at n.spelling in
     let named = named_so c.new.result (rw s (name_allowed z)) c.new.ensures.asks_letters_and_digits c.new.ensures.that_name in
     rw (named, s) (pinned (title_one _ _) (on a.reading.reads (on y (on z (on f refl)))))

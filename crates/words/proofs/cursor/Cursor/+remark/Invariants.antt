@@ -1,5 +1,6 @@
-use Rattle.std.proofs.Common.{◌≡◌, ℕ, ◌-◌, ◌≤◌, length, Result}
+use Rattle.std.proofs.Common.{ℕ, ◌-◌, length, Result}
 use Rattle.cam.specs.declared.fault.Fault.{Fault}
+use Rattle.words.specs.Going.{GoesOn}
 use Rattle.words.specs.Remarks.{Remark}
 use Rattle.words.proofs.cursor.Cursor.+remark.Given as goal
 
@@ -9,8 +10,7 @@ decreases-remark l = l.inner
 -- what the rest gives, the whole gives
 abbrev pub invariant-loop-token : goal.invariant-loop-token
 invariant-loop-token l = record {
-  text_stays : l.self.text.now ≡ l.fn.self.text.now;
-  goes_on : l.fn.self.at ≤ l.self.at;
+  goes_on : GoesOn l.fn.self l.self;
   rest : (r : Result ℕ Fault) → Remark l.fn.self.text.now l.inner l.self.at r → Remark l.fn.self.text.now l.inner l.fn.self.at r;
 }
 

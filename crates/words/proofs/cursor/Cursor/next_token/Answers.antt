@@ -17,14 +17,14 @@ invariant_of-self c =
 pub returns-in_err-kind-clause-reading : goal.returns-in_err-kind-clause-reading
 returns-in_err-kind-clause-reading c =
     let s = c.skip_spaces.ensures in
-    rw (same_fault _ c.from_residual.ensures.1) (pinned (lexed_one _ _) (record { place = _; spaces = s.spaces_skipped; stands = (rw s.text_stays at c.in_err-kind.ensures.token_there) }))
+    rw (same_fault _ c.from_residual.ensures.1) (pinned (lexed_one _ _) (record { place = _; spaces = s.spaces_skipped; stands = (rw s.goes_on.text_stays at c.in_err-kind.ensures.token_there) }))
 
 pub returns-clause-reading : goal.returns-clause-reading
 returns-clause-reading c =
     let s = c.skip_spaces.ensures in
-    pinned (lexed_one _ _) (record { place = _; spaces = s.spaces_skipped; stands = (rw s.text_stays at c.in_ok-kind.ensures.token_there) })
+    pinned (lexed_one _ _) (record { place = _; spaces = s.spaces_skipped; stands = (rw s.goes_on.text_stays at c.in_ok-kind.ensures.token_there) })
 
 pub returns-clause-lies : goal.returns-clause-lies
 returns-clause-lies c =
     let s = c.skip_spaces.ensures in
-    lexed_lies _ _ _ (record { place = _; spaces = s.spaces_skipped; stands = (rw s.text_stays at c.in_ok-kind.ensures.token_there) })
+    lexed_lies _ _ _ (record { place = _; spaces = s.spaces_skipped; stands = (rw s.goes_on.text_stays at c.in_ok-kind.ensures.token_there) })

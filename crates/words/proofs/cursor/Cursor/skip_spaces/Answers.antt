@@ -1,4 +1,4 @@
-use Rattle.std.proofs.Common.{arith, refl, rules, tests}
+use Rattle.std.proofs.Common.{arith, rules, tests}
 use Rattle.words.proofs.Runs.{is_space, skips_by}
 use Rattle.words.proofs.cursor.Cursor.skip_spaces.Goals as goal
 
@@ -15,7 +15,7 @@ invariant_of-self c =
     let s = skips_by _ _ _ _ c.args.self.now.inside c.rest.ensures.after_the_cursor n in
     record { inside = s.within }
 
-pub returns : goal.returns
-returns c =
+pub returns-clause-spaces_skipped : goal.returns-clause-spaces_skipped
+returns-clause-spaces_skipped c =
     let n = c.run_length.ensures.longest_run is_space (λ b r k. search (rules, tests)) in
-    record { spaces_skipped = skips_by _ _ _ _ c.args.self.now.inside c.rest.ensures.after_the_cursor n; text_stays = refl }
+    skips_by _ _ _ _ c.args.self.now.inside c.rest.ensures.after_the_cursor n
