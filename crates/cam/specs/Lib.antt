@@ -6,3 +6,4 @@ pub mod Machine
 pub mod Operations
 pub mod Refusals
 pub mod Buffers
+pub mod Mark

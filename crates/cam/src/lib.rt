@@ -8,6 +8,7 @@ pub mod buffer;
 pub mod defect;
 pub mod fault;
 pub mod index;
+pub mod mark;
 pub mod operation;
 pub mod size;
 pub mod tally;

@@ -11,9 +11,9 @@ use Rattle.cam.proofs.Below.{split, any_same, all_same}
 use Rattle.cam.proofs.Outside.{tally_more}
 use Rattle.cam.proofs.Values.{value_same}
 use Rattle.cells.specs.Meaning.{CellMeaning, taken}
-use Rattle.cell_field.specs.declared.mark.Mark.{Mark}
-use Rattle.cell_field.specs.declared.mark.Mark.TheVariants.{Clear}
-use Rattle.cell_field.specs.Mark.{is_set, is_stuck}
+use Rattle.cam.specs.declared.mark.Mark.{Mark}
+use Rattle.cam.specs.declared.mark.Mark.TheVariants.{Clear}
+use Rattle.cam.specs.Mark.{is_set, is_stuck}
 use Rattle.cell_field.specs.Row.{blank_cell, at, wrote_cell, row_matches}
 use Rattle.cell_field.specs.Field.{cell_at, mark_at, build_from, state_from}
 use Rattle.cell_field.proofs.Places.{cell_between, put_before, put_inside, put_after, row_within}

@@ -3,9 +3,9 @@ use Rattle.std.specs.Prelude.{ℕ, ◌+◌, ◌*◌, min, cond, ◌&&◌, List, 
 use Rattle.cam.specs.Model.{Build, State, tally_cap}
 use Rattle.cells.specs.Meaning.{CellMeaning}
 use Rattle.cell_field.specs.declared.field.CellField.{CellField}
-use Rattle.cell_field.specs.declared.mark.Mark.{Mark}
-use Rattle.cell_field.specs.declared.mark.Mark.TheVariants.{Clear}
-use Rattle.cell_field.specs.Mark.{is_set, is_stuck}
+use Rattle.cam.specs.declared.mark.Mark.{Mark}
+use Rattle.cam.specs.declared.mark.Mark.TheVariants.{Clear}
+use Rattle.cam.specs.Mark.{is_set, is_stuck}
 use Rattle.cell_field.specs.Row.{blank_cell, at}
 
 -- cell (k, j) of an array of n words of w bits

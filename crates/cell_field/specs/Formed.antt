@@ -6,9 +6,9 @@ use Rattle.cam.specs.Defects.{is_good}
 use Rattle.cam.specs.Model.{WellFormed}
 use Rattle.cells.specs.Meaning.{CellMeaning, SteadyCell}
 use Rattle.cell_field.specs.declared.field.CellField.{CellField}
-use Rattle.cell_field.specs.declared.mark.Mark.{Mark}
-use Rattle.cell_field.specs.declared.mark.Mark.TheVariants.{Clear, Set, Stuck}
-use Rattle.cell_field.specs.Mark.{is_set, is_stuck}
+use Rattle.cam.specs.declared.mark.Mark.{Mark}
+use Rattle.cam.specs.declared.mark.Mark.TheVariants.{Clear, Set, Stuck}
+use Rattle.cam.specs.Mark.{is_set, is_stuck}
 use Rattle.cell_field.specs.Row.{blank_cell, at}
 use Rattle.cell_field.specs.Field.{cell_at, mark_at, field_build, field_state}
 

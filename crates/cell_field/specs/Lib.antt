@@ -1,4 +1,3 @@
-pub mod Mark
 pub mod Row
 pub mod Field
 pub mod Formed

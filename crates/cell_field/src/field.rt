@@ -4,9 +4,9 @@ ghost use Rattle.cam.specs.Model.{tally_cap};
 ghost use Rattle.cam.specs.Defects.{within_limits, has_word, with_stuck_mark, unmarked};
 ghost use Rattle.cam.specs.Refusals.{Asks, AsksIn, ask};
 
-use crate::mark::Mark;
 use cam::fault::{Fault, Reason};
 use cam::index::WordIndex;
+use cam::mark::Mark;
 use cam::size::{LARGEST, Size};
 use cells::kind::CellKind;
 

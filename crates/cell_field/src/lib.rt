@@ -2,6 +2,5 @@
 #![tactic(auto)]
 
 pub mod field;
-pub mod mark;
 pub mod operating;
 pub mod rows;

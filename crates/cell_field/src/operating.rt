@@ -5,10 +5,10 @@ ghost use Rattle.cell_field.specs.Field.{field_build, field_state};
 ghost use Rattle.cell_field.specs.Formed.{field_formed};
 
 use crate::field::CellField;
-use crate::mark::Mark;
 use crate::rows::{read_row, row_matches, write_row};
 use cam::array::CamArray;
 use cam::index::WordIndex;
+use cam::mark::Mark;
 use cam::tally::one_more;
 use cells::kind::CellKind;
 

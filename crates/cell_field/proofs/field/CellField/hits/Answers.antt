@@ -6,9 +6,9 @@ use Rattle.std.proofs.lemmas.Iterator.Search.{any_from_yields_List}
 use Rattle.std.proofs.lemmas.Iterator.Adapters.{serves_from_places}
 use Rattle.std.proofs.lemmas.Nat.{le-div}
 use Rattle.std.proofs.lemmas.List.{length-take}
-use Rattle.cell_field.specs.declared.mark.Mark.{Mark}
-use Rattle.cell_field.specs.declared.mark.Mark.TheVariants.{Clear}
-use Rattle.cell_field.specs.Mark.{is_set}
+use Rattle.cam.specs.declared.mark.Mark.{Mark}
+use Rattle.cam.specs.declared.mark.Mark.TheVariants.{Clear}
+use Rattle.cam.specs.Mark.{is_set}
 use Rattle.cell_field.specs.Row.{row_matches}
 use Rattle.cell_field.proofs.Chains.{pairs_yielded, row_beside, any_rows}
 use Rattle.cell_field.proofs.Meanings.{some_match}

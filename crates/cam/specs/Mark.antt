@@ -1,7 +1,7 @@
 -- What a mark tells of its word.
 use Rattle.std.specs.Prelude.{Bool, true, false}
-use Rattle.cell_field.specs.declared.mark.Mark.{Mark}
-use Rattle.cell_field.specs.declared.mark.Mark.TheVariants.{Clear, Set, Stuck}
+use Rattle.cam.specs.declared.mark.Mark.{Mark}
+use Rattle.cam.specs.declared.mark.Mark.TheVariants.{Clear, Set, Stuck}
 
 abbrev pub is_set : Mark → Bool
 is_set Clear = false

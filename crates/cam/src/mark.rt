@@ -1,11 +1,12 @@
 // The mark of a word.
 ghost use Rattle.std.specs.Prelude.{◌≡◌, false};
 ghost use Rattle.cam.specs.Model.{mark_after_write};
-ghost use Rattle.cell_field.specs.Mark.{is_set, is_stuck};
+ghost use Rattle.cam.specs.Mark.{is_set, is_stuck};
 
 // A mark is clear or set, or stuck, and then never set.
-#[derive(Clone, Copy, PartialEq, Eq)]
+#[derive(Clone, Copy, Default, PartialEq, Eq)]
 pub enum Mark {
+    #[default]
     Clear,
     Set,
     Stuck,
@@ -13,7 +14,7 @@ pub enum Mark {
 
 impl Mark {
     // The mark after a write: set, unless it is stuck.
-    pub(crate) fn written(self) -> Mark
+    pub fn written(self) -> Mark
         ensures set_unless_stuck { is_set result ≡ mark_after_write (is_stuck self) (is_set self) }
         ensures stuck_stays { is_stuck result ≡ is_stuck self }
     {
@@ -24,7 +25,7 @@ impl Mark {
     }
 
     // The mark after an erase.
-    pub(crate) fn erased(self) -> Mark
+    pub fn erased(self) -> Mark
         ensures clear { is_set result ≡ false }
         ensures stuck_stays { is_stuck result ≡ is_stuck self }
     {
