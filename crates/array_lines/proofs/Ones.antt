@@ -69,7 +69,7 @@ pub cell_one : (N W : ℕ) (text : List ℕ) (a : ℕ) → One (CellNext N W tex
 cell_one N W text a =
     then_one (NumberWithin 0 N OutsideArray text a) _ (within_one 0 N OutsideArray text a)
     (λ k. then_one (NumberWithin 0 W OutsideArray text k.to) _ (within_one 0 W OutsideArray text k.to)
-    (λ j. cell_fault_next_one text (cell k.value j.value) j.to))
+    (λ j. cell_fault_next_one text (cell k.value.value j.value.value) j.to))
 
 pub mark_one : (N : ℕ) (text : List ℕ) (a : ℕ) → One (MarkNext N text a)
 mark_one N text a = then_one (NumberWithin 0 N OutsideArray text a) _ (within_one 0 N OutsideArray text a) (λ k. value_one _)
@@ -92,19 +92,19 @@ line_one N W text a =
     (λ l. then_one (Next LineFeed text l.to) _ (next_one LineFeed text l.to) (λ e. value_one _))
 
 -- a number that was read within limits is within them
-bounded_least : (least limit : ℕ) (reason : Reason) (n : Gathered Number) (s : Result (Gathered ℕ) Fault) → Bounded least limit reason n s → IfOk s (λ m. least ≤ m.value)
+bounded_least : (least limit : ℕ) (reason : Reason) (n : Gathered Number) (s : Result (Gathered Number) Fault) → Bounded least limit reason n s → IfOk s (λ m. least ≤ m.value.value)
 bounded_least least limit reason n _ (within p q) = p
 bounded_least least limit reason n _ (outside p) = tt
 
-pub within_least : (least limit : ℕ) (reason : Reason) (text : List ℕ) (a : ℕ) (r : Result (Gathered ℕ) Fault) → NumberWithin least limit reason text a r → IfOk r (λ m. least ≤ m.value)
-within_least least limit reason text a r = then_made (λ m. least ≤ m.value) (λ n s p q. bounded_least least limit reason n s q)
+pub within_least : (least limit : ℕ) (reason : Reason) (text : List ℕ) (a : ℕ) (r : Result (Gathered Number) Fault) → NumberWithin least limit reason text a r → IfOk r (λ m. least ≤ m.value.value)
+within_least least limit reason text a r = then_made (λ m. least ≤ m.value.value) (λ n s p q. bounded_least least limit reason n s q)
 
-bounded_below : (least limit : ℕ) (reason : Reason) (n : Gathered Number) (s : Result (Gathered ℕ) Fault) → Bounded least limit reason n s → IfOk s (λ m. m.value < limit)
+bounded_below : (least limit : ℕ) (reason : Reason) (n : Gathered Number) (s : Result (Gathered Number) Fault) → Bounded least limit reason n s → IfOk s (λ m. m.value.value < limit)
 bounded_below least limit reason n _ (within p q) = q
 bounded_below least limit reason n _ (outside p) = tt
 
-pub within_below : (least limit : ℕ) (reason : Reason) (text : List ℕ) (a : ℕ) (r : Result (Gathered ℕ) Fault) → NumberWithin least limit reason text a r → IfOk r (λ m. m.value < limit)
-within_below least limit reason text a r = then_made (λ m. m.value < limit) (λ n s p q. bounded_below least limit reason n s q)
+pub within_below : (least limit : ℕ) (reason : Reason) (text : List ℕ) (a : ℕ) (r : Result (Gathered Number) Fault) → NumberWithin least limit reason text a r → IfOk r (λ m. m.value.value < limit)
+within_below least limit reason text a r = then_made (λ m. m.value.value < limit) (λ n s p q. bounded_below least limit reason n s q)
 
 pub value_made : {X : Type 0} (Z : X → Type 0) (v r : Result X Fault) → IfOk v Z → r ≡ v → IfOk r Z
 value_made Z v r m e = subst (λ s. IfOk s Z) (sym e) m

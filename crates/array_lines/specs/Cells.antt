@@ -42,10 +42,10 @@ abbrev pub CellNext : ℕ → ℕ → List ℕ → ℕ → Result (Gathered Defe
 CellNext N W text a =
     Then (NumberWithin 0 N OutsideArray text a) (λ k.
     Then (NumberWithin 0 W OutsideArray text k.to) (λ j.
-    CellFaultNext text (cell k.value j.value) j.to))
+    CellFaultNext text (cell k.value.value j.value.value) j.to))
 
 -- after the word `mark`: a word
 abbrev pub MarkNext : ℕ → List ℕ → ℕ → Result (Gathered Defect) Fault → Type 0
 MarkNext N text a =
     Then (NumberWithin 0 N OutsideArray text a)
-    (λ k r. r ≡ Ok (gathered (defect.Mark (record { number = k.value })) k.to))
+    (λ k r. r ≡ Ok (gathered (defect.Mark (record { number = k.value.value })) k.to))

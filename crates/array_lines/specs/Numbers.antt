@@ -27,9 +27,9 @@ abbrev pub NumberNext : List ℕ → ℕ → Result (Gathered Number) Fault → 
 NumberNext text a = Then (NameNext text a) (WantsNumber text)
 
 -- a number is asked to be `least` or more, and below `limit`; the fault is at the number
-pub data Bounded (least limit : ℕ) (reason : Reason) (n : Gathered Number) : Result (Gathered ℕ) Fault → Type 0 where
-  within : least ≤ n.value.value → n.value.value < limit → Bounded least limit reason n (Ok (gathered n.value.value n.to))
+pub data Bounded (least limit : ℕ) (reason : Reason) (n : Gathered Number) : Result (Gathered Number) Fault → Type 0 where
+  within : least ≤ n.value.value → n.value.value < limit → Bounded least limit reason n (Ok n)
   outside : (least ≤ n.value.value → n.value.value < limit → ⊥) → Bounded least limit reason n (Err (meaning_fault reason n.value.from))
 
-abbrev pub NumberWithin : ℕ → ℕ → Reason → List ℕ → ℕ → Result (Gathered ℕ) Fault → Type 0
+abbrev pub NumberWithin : ℕ → ℕ → Reason → List ℕ → ℕ → Result (Gathered Number) Fault → Type 0
 NumberWithin least limit reason text a = Then (NumberNext text a) (Bounded least limit reason)

@@ -75,7 +75,7 @@ pub(crate) fn read_cell(cursor: &mut Cursor, size: Size) -> Result<Defect, Fault
 {
     let word = number_within(cursor, 0..size.words, Reason::OutsideArray)?;
     let column = number_within(cursor, 0..u16::from(size.width), Reason::OutsideArray)?;
-    read_cell_fault(cursor, CellIndex::at(word, column as u8))
+    read_cell_fault(cursor, CellIndex::at(word.value, column.value as u8))
 }
 
 // Reads what follows the word `mark`: a word of an array of so many (42).
@@ -85,6 +85,6 @@ pub(crate) fn read_mark(cursor: &mut Cursor, words: u16) -> Result<Defect, Fault
 {
     let word = number_within(cursor, 0..words, Reason::OutsideArray)?;
     Ok(Defect::Mark {
-        word: WordIndex { number: word },
+        word: WordIndex { number: word.value },
     })
 }

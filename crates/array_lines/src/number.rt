@@ -49,7 +49,7 @@ fn read_number(cursor: &mut Cursor) -> Result<Number, Fault>
 }
 
 // Reads a number, and asks whether it is within these limits; else it is refused for this reason.
-pub fn number_within(cursor: &mut Cursor, limits: Range<u16>, reason: Reason) -> Result<u16, Fault>
+pub fn number_within(cursor: &mut Cursor, limits: Range<u16>, reason: Reason) -> Result<Number, Fault>
     ensures reading { Reading (NumberWithin limits.start limits.end reason cursor.old.text.now cursor.old.at) (come_to cursor.new.at result) }
     ensures goes_on { GoesOn cursor.old cursor.new }
 {
@@ -57,5 +57,5 @@ pub fn number_within(cursor: &mut Cursor, limits: Range<u16>, reason: Reason) ->
     if !limits.contains(&number.value) {
         return Err(meaning_fault(reason, number.from));
     }
-    Ok(number.value)
+    Ok(number)
 }

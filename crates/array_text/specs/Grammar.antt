@@ -27,7 +27,7 @@ SizeNext text a =
     Then (NumberWithin 1 257 SizeOutsideLimits text a) (λ n.
     Then (NumberWithin 1 65 SizeOutsideLimits text n.to) (λ w.
     Then (Next LineFeed text w.to)
-    (λ e r. r ≡ Ok (gathered (record { words = n.value; width = w.value }) e))))
+    (λ e r. r ≡ Ok (gathered (record { words = n.value.value; width = w.value.value }) e))))
 
 -- the text is short enough, and from `a` on stands `(array` with its size
 abbrev pub FirstLineNext : List ℕ → ℕ → Result (Gathered Size) Fault → Type 0

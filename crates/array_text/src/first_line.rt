@@ -18,8 +18,8 @@ fn read_size(cursor: &mut Cursor) -> Result<Size, Fault>
     let width = number_within(cursor, 1..65, Reason::SizeOutsideLimits)?;
     cursor.want(Kind::LineFeed)?;
     Ok(Size {
-        words,
-        width: width as u8,
+        words: words.value,
+        width: width.value as u8,
     })
 }
 

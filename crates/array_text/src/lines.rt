@@ -28,7 +28,8 @@ fn add_line(cursor: &mut Cursor, bracket: usize, array: &mut PlaneArray) -> Resu
     }
 }
 
-// Reads the lines up to the text's closing bracket, and plants their defects.
+// Reads the lines up to the text's closing bracket, and plants their defects. A loop of its own, as a sheet's lines have
+// one: of a closure that plants, the invariant could not say what the lines mean.
 fn add_lines(cursor: &mut Cursor, array: &mut PlaneArray) -> Result<(), Fault>
     ensures reading { (N W : ℕ) (ds : List Defect) → Holds N W ds array.old → Leaves (Lines N W cursor.old.text.now ds cursor.old.at) N W array.new (reached cursor.new.at result) }
     ensures later_records_stay { KeepsLater array.old array.new }

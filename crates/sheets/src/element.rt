@@ -36,6 +36,7 @@ pub(crate) fn read_element(
     ensures name_stays { name_of test.new ≡ name_of test.old }
     ensures goes_on { GoesOn cursor.old cursor.new }
 {
+    // asked here, so that the refusal names the place in the text; the test asks again
     check_room(
         test.element_count(),
         MOST_ELEMENTS,

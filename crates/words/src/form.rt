@@ -22,7 +22,7 @@ pub fn not_wanted(place: usize) -> Fault
     }
 }
 
-// A type of which each value is written as one word.
+// A type of which each value is written as one word. Not `TryFrom`, whose contract could not say which word.
 pub trait Spelled {
     ghost spelling: { Self → List ℕ };
 
