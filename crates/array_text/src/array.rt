@@ -7,42 +7,14 @@ ghost use Rattle.array_text.specs.Texts.{Means, HandedBack};
 
 use crate::first_line::read_first_line;
 use crate::lines::add_rest;
-use cam::fault::{Fault, Reason};
+use cam::fault::{Fault, Reason, Returned};
 use cam::size::size_of;
-use planes::array::{NotMade, PlaneArray};
+use planes::array::PlaneArray;
 use planes::word::WordRecord;
 use words::cursor::Cursor;
 
 // The most records that an array needs.
 pub const RECORDS: usize = 256;
-
-// No array was read: the caller's records back, and why.
-#[derive(Drop)]
-pub struct NotRead {
-    pub records: Vec<WordRecord>,
-    pub fault: Fault,
-}
-
-// Of an array that was not made, the records and the reason.
-impl From<NotMade> for NotRead {
-    ghost from_gives = { λ not_made not_read. (not_read.records ≡ not_made.records) × (not_read.fault ≡ not_made.fault) };
-
-    fn from(not_made: NotMade) -> NotRead {
-        NotRead {
-            records: not_made.records,
-            fault: not_made.fault,
-        }
-    }
-}
-
-// Of an array that was not read, the reason alone.
-impl From<NotRead> for Fault {
-    ghost from_gives = { λ not_read fault. fault ≡ not_read.fault };
-
-    fn from(not_read: NotRead) -> Fault {
-        not_read.fault
-    }
-}
 
 // Ends an array in the making, and hands its records back with those of its words blank.
 fn given_up(array: PlaneArray) -> Vec<WordRecord>
@@ -50,7 +22,7 @@ fn given_up(array: PlaneArray) -> Vec<WordRecord>
 {
     let size = size_of(&array);
     PlaneArray::new(array.into_records(), size).map_or_else(
-        |not_made| not_made.records,
+        |returned| returned.back,
         PlaneArray::into_records,
     )
 }
@@ -59,14 +31,17 @@ fn given_up(array: PlaneArray) -> Vec<WordRecord>
 // records of the largest array (57), so that no text meets too little memory, and then the questions of the text: the
 // fault that comes first in it is answered. Records past the last word are left alone. Of a refused text the records come
 // back as they were where its first line is refused, and else with those of its words blank.
-pub fn read_array(text: &[u8], records: Vec<WordRecord>) -> Result<PlaneArray, NotRead>
+pub fn read_array(
+    text: &[u8],
+    records: Vec<WordRecord>,
+) -> Result<PlaneArray, Returned<Vec<WordRecord>>>
     ensures text_read { MatchResult result (Means (vec_len records) text.now) (λ e. Reading (ArrayCall (vec_len records) text.now) (Err e.fault)) }
-    ensures records_afterwards { MatchResult result (λ p. drop (build_of p).words p.records.items ≡ drop (build_of p).words records.items) (λ e. 256 ≤ vec_len records → HandedBack text.now records.items e.records.items) }
-    ensures untouched_without_memory { MatchResult result (λ _. 256 ≤ vec_len records) (λ e. vec_len records < 256 → e.records ≡ records) }
+    ensures records_afterwards { MatchResult result (λ p. drop (build_of p).words p.records.items ≡ drop (build_of p).words records.items) (λ e. 256 ≤ vec_len records → HandedBack text.now records.items e.back.items) }
+    ensures untouched_without_memory { MatchResult result (λ _. 256 ≤ vec_len records) (λ e. vec_len records < 256 → e.back ≡ records) }
 {
     if records.len() < RECORDS {
-        return Err(NotRead {
-            records,
+        return Err(Returned {
+            back: records,
             fault: Fault::of_call(Reason::BufferTooShort),
         });
     }
@@ -74,13 +49,16 @@ pub fn read_array(text: &[u8], records: Vec<WordRecord>) -> Result<PlaneArray, N
     let size = match read_first_line(&mut cursor) {
         Ok(size) => size,
         // a closure of `map_err` would take the records along, also where the line was read
-        Err(fault) => return Err(NotRead { records, fault }),
+        Err(fault) => return Err(Returned {
+            back: records,
+            fault,
+        }),
     };
     let mut array = PlaneArray::new(records, size)?;
     match add_rest(&mut cursor, &mut array) {
         Ok(()) => Ok(array),
-        Err(fault) => Err(NotRead {
-            records: given_up(array),
+        Err(fault) => Err(Returned {
+            back: given_up(array),
             fault,
         }),
     }

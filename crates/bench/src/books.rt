@@ -46,9 +46,3 @@ impl Books {
 pub struct Ticket {
     pub(crate) number: u64,
 }
-
-// A run was not closed: its ticket back, and why. No `From` makes the refusal alone of it, since the ticket would be lost.
-pub struct NotClosed {
-    pub ticket: Ticket,
-    pub fault: Fault,
-}

@@ -6,9 +6,10 @@ ghost use Rattle.bench.specs.Calls.{desk, chart_bytes, Performs, Performed};
 ghost use Rattle.bench.specs.Rules.{Rules};
 
 use crate::bench::Bench;
-use crate::books::{NotClosed, Ticket};
+use crate::books::Ticket;
 use crate::calls::Call;
 use cam::array::CamArray;
+use cam::fault::Returned;
 use cam::operation::Operation;
 use cam::size::LARGEST;
 
@@ -66,8 +67,8 @@ fn perform<C: CamArray>(bench: &mut Bench<C>, call: Call)
             let Ticket { number: _ } = ticket;
         }
         Call::Close { ticket } => {
-            let _ = bench.close(Ticket { number: ticket }).map_err(|NotClosed { ticket, fault }| {
-                let Ticket { number: _ } = ticket;
+            let _ = bench.close(Ticket { number: ticket }).map_err(|Returned { back, fault }| {
+                let Ticket { number: _ } = back;
                 fault
             });
         }

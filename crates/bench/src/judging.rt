@@ -8,7 +8,7 @@ ghost use Rattle.bench.specs.Judging.{judge_questions, judged_state, Judges};
 use crate::bench::Bench;
 use crate::books::Finding;
 use cam::array::CamArray;
-use cam::fault::{Fault, Reason};
+use cam::fault::{Fault, Reason, Returned};
 use cam::size::{Size, size_of};
 use chart::drawing;
 use mlt1::table;
@@ -28,22 +28,6 @@ pub struct Judgement {
 pub struct Judged<C> {
     pub array: C,
     pub judgement: Judgement,
-}
-
-// Nothing was done: the array back, and why.
-#[derive(Drop)]
-pub struct NotJudged<C> {
-    pub array: C,
-    pub fault: Fault,
-}
-
-// For a caller that needs the refusal alone.
-impl<C: Drop> From<NotJudged<C>> for Fault {
-    ghost from_gives = { λ e f. f ≡ e.fault };
-
-    fn from(refused: NotJudged<C>) -> Fault {
-        refused.fault
-    }
 }
 
 // Asks for a byte for each cell (57), and for room in the tally for a run and a chart (54).
@@ -86,13 +70,13 @@ fn judge_on<C: CamArray>(bench: &mut Bench<C>, buffer: &mut [u8]) -> Result<Judg
 
 // Makes a bench over an array, runs MLT-1 on it and closes the run, and draws the chart at the front of a buffer. It
 // asks for a byte for each cell (57) and for room in the tally (54) before it does anything.
-pub fn judge_array<C: CamArray>(array: C, buffer: &mut [u8]) -> Result<Judged<C>, NotJudged<C>>
+pub fn judge_array<C: CamArray>(array: C, buffer: &mut [u8]) -> Result<Judged<C>, Returned<C>>
     ensures asks_in_order { AsksIn (λ e. e.fault) (judge_questions (C.build array) (C.state array) (length buffer.old)) result }
     ensures judgement_is_right { IfOk result (λ j. Judges (C.build array) (C.state array) j.judgement) }
     ensures every_byte { OnOk result (ChartIn (C.build array) buffer.old buffer.new) }
     ensures only_these_operations { IfOk result (λ j. C.state j.array ≡ judged_state (C.build array) (C.state array)) }
     ensures build_stays { IfOk result (λ j. C.build j.array ≡ C.build array) }
-    ensures array_handed_back { IfErr result (λ e. e.array ≡ array) }
+    ensures array_handed_back { IfErr result (λ e. e.back ≡ array) }
     ensures refused_leaves_the_buffer { OnErr result (buffer.new ≡ buffer.old) }
 {
     let mut bench = Bench::new(array);
@@ -100,6 +84,6 @@ pub fn judge_array<C: CamArray>(array: C, buffer: &mut [u8]) -> Result<Judged<C>
     let array = bench.into_array();
     match judged {
         Ok(judgement) => Ok(Judged { array, judgement }),
-        Err(fault) => Err(NotJudged { array, fault }),
+        Err(fault) => Err(Returned { back: array, fault }),
     }
 }

@@ -6,9 +6,9 @@ ghost use Rattle.bench.specs.Books.{run_in_hand, started, with_run, found, close
 ghost use Rattle.bench.specs.Questions.{start_questions, step_questions, close_questions, quit_questions};
 
 use crate::bench::{Bench, LIMIT};
-use crate::books::{Finding, NotClosed, Ticket};
+use crate::books::{Finding, Ticket};
 use cam::array::CamArray;
-use cam::fault::{Fault, Reason};
+use cam::fault::{Fault, Reason, Returned};
 use cam::size::size_of;
 use mlt1::state::RunState;
 use mlt1::table::operation_count;
@@ -73,12 +73,12 @@ impl<C: CamArray> Bench<C> {
     }
 
     // Closes the run of the ticket (55) at its end (56): the finding is sound where no answer missed, else faulty.
-    pub fn close(&mut self, ticket: Ticket) -> Result<Finding, NotClosed>
+    pub fn close(&mut self, ticket: Ticket) -> Result<Finding, Returned<Ticket>>
         ensures asks_in_order { AsksIn (λ e. e.fault) (close_questions (C.build self.old.array) self.old.books ticket.number) result }
         ensures finding_of_the_misses { IfOk result (λ f. f ≡ found (run_in_hand self.old.books).misses) }
         ensures run_closed { OnOk result (self.new.books ≡ closed self.old.books) }
         ensures array_stays { self.new.array ≡ self.old.array }
-        ensures ticket_handed_back { IfErr result (λ e. e.ticket ≡ ticket) }
+        ensures ticket_handed_back { IfErr result (λ e. e.back ≡ ticket) }
         ensures refused_changes_nothing { OnErr result (self.new ≡ self.old) }
     {
         match self.ended_run(ticket.number) {
@@ -93,7 +93,10 @@ impl<C: CamArray> Bench<C> {
                 self.books.finding = finding;
                 Ok(finding)
             }
-            Err(fault) => Err(NotClosed { ticket, fault }),
+            Err(fault) => Err(Returned {
+                back: ticket,
+                fault,
+            }),
         }
     }
 

@@ -8,9 +8,9 @@ ghost use Rattle.bench.specs.Books.{found, finding_number, ran_whole};
 ghost use Rattle.bench.specs.Questions.{start_questions};
 
 use crate::bench::Bench;
-use crate::books::{Finding, NotClosed};
+use crate::books::Finding;
 use cam::array::CamArray;
-use cam::fault::Fault;
+use cam::fault::{Fault, Returned};
 use cam::size::size_of;
 use mlt1::table::operation_count;
 
@@ -32,8 +32,8 @@ impl<C: CamArray> Bench<C> {
         // No `map_err`: of a bench that a closure quits the run of, the proof would know nothing.
         match self.close(ticket) {
             Ok(finding) => Ok(finding),
-            Err(NotClosed { ticket, fault }) => {
-                let _ = self.quit(ticket);
+            Err(Returned { back, fault }) => {
+                let _ = self.quit(back);
                 Err(fault)
             }
         }

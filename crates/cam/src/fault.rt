@@ -1,5 +1,5 @@
 // Refusals: each has a number, the layer of a text that gave it, and a byte place in that text.
-ghost use Rattle.std.specs.Prelude.{◌≡◌};
+ghost use Rattle.std.specs.Prelude.{◌≡◌, OnOk, IfErr};
 ghost use Rattle.cam.specs.Refusals.{Refused, reason_number, layer_number};
 
 use std::error::Error;
@@ -110,3 +110,30 @@ impl fmt::Display for Fault {
 }
 
 impl Error for Fault {}
+
+// A refused call: what it was given, which its caller gets back, and why. It can be dropped where that can.
+#[derive(Drop)]
+pub struct Returned<T> {
+    pub back: T,
+    pub fault: Fault,
+}
+
+// For a caller that needs the refusal alone.
+impl<T: Drop> From<Returned<T>> for Fault {
+    ghost from_gives = { λ returned fault. fault ≡ returned.fault };
+
+    fn from(returned: Returned<T>) -> Fault {
+        returned.fault
+    }
+}
+
+// Hands on what a call was given where each of its questions was answered yes, and else back with the refusal.
+pub fn granted<T>(given: T, asked: Result<(), Fault>) -> Result<T, Returned<T>>
+    ensures granted_where_yes { OnOk asked (result ≡ Ok given) }
+    ensures refused_with_the_given { IfErr asked (λ fault. result ≡ Err (record { back = given; fault = fault })) }
+{
+    match asked {
+        Ok(()) => Ok(given),
+        Err(fault) => Err(Returned { back: given, fault }),
+    }
+}

@@ -11,10 +11,11 @@ use crate::faults::{CampaignFault, faults_of_rows};
 use crate::percent::tenths_of_percent;
 use crate::records::CampaignRecords;
 use crate::row::Row;
+use cam::fault::Returned;
 use cam::index::CellIndex;
 use cam::size::Size;
 use march::test::Test;
-use planes::array::{NotMade, PlaneArray};
+use planes::array::PlaneArray;
 use planes::word::WordRecord;
 
 impl CampaignRecords {
@@ -72,10 +73,10 @@ pub fn campaign(
     size: Size,
     records: Vec<WordRecord>,
     rows: &mut [Row; 15],
-) -> Result<Vec<WordRecord>, NotMade>
+) -> Result<Vec<WordRecord>, Returned<Vec<WordRecord>>>
     ensures asks_size_then_records { AsksIn (λ e. e.fault) (campaign_questions size.words size.width (vec_len records)) result }
     ensures row_of_each_fault { MatchResult result (λ _. rows.new ≡ map (row_of (elements_of test.now) size.words size.width) campaign_faults) (λ _. rows.new ≡ rows.old) }
-    ensures records_come_back { MatchResult result (λ back. Blank size.words back.items) (λ e. e.records ≡ records) }
+    ensures records_come_back { MatchResult result (λ back. Blank size.words back.items) (λ e. e.back ≡ records) }
     ensures mlt1_detects_every_place { elements_of test.now ≡ mlt1 → OnOk result (rows.new ≡ map (full_row size.words size.width) campaign_faults) }
     ensures mlt1_detects_at_every_size { DetectsAll mlt1 }
     ensures places_of_faults { PlacesAre }

@@ -1,11 +1,10 @@
 // The caller's records, and how large the arrays are that a campaign makes of them.
 ghost use Rattle.std.specs.Prelude.{◌≡◌, ◌≤◌, vec_len, IfOk, MatchResult};
-ghost use Rattle.cam.specs.Refusals.{AsksIn};
+ghost use Rattle.cam.specs.Refusals.{Asks, AsksIn};
 ghost use Rattle.campaigns.specs.Campaigns.{campaign_questions};
 
-use cam::fault::{Fault, Reason};
+use cam::fault::{Fault, Reason, Returned, granted};
 use cam::size::Size;
-use planes::array::NotMade;
 use planes::word::WordRecord;
 
 // The largest array of a campaign.
@@ -26,23 +25,31 @@ pub(crate) struct CampaignRecords {
     ghost record_a_word: { size.words ≤ vec_len records },
 }
 
+// Asks for 1 to 16 words of 1 to 16 bits (81), then for a record for each word (57).
+fn ask_size(size: Size, records: usize) -> Result<(), Fault>
+    ensures asks_size_then_records { Asks (campaign_questions size.words size.width records) result }
+{
+    if !size.is_within(LARGEST) {
+        return Err(Fault::of_call(Reason::CampaignTooLarge));
+    }
+    if records < size.words as usize {
+        return Err(Fault::of_call(Reason::BufferTooShort));
+    }
+    Ok(())
+}
+
 impl CampaignRecords {
     // Asks for 1 to 16 words of 1 to 16 bits (81), then for a record for each word (57).
-    pub(crate) fn new(records: Vec<WordRecord>, size: Size) -> Result<CampaignRecords, NotMade>
+    pub(crate) fn new(
+        records: Vec<WordRecord>,
+        size: Size,
+    ) -> Result<CampaignRecords, Returned<Vec<WordRecord>>>
         ensures asks_size_then_records { AsksIn (λ e. e.fault) (campaign_questions size.words size.width (vec_len records)) result }
-        ensures these_records { MatchResult result (λ own. own.records ≡ records) (λ e. e.records ≡ records) }
+        ensures these_records { MatchResult result (λ own. own.records ≡ records) (λ e. e.back ≡ records) }
         ensures this_size { IfOk result (λ own. own.size ≡ size) }
     {
-        let reason = if !size.is_within(LARGEST) {
-            Reason::CampaignTooLarge
-        } else if records.len() < size.words as usize {
-            Reason::BufferTooShort
-        } else {
-            return Ok(CampaignRecords { records, size });
-        };
-        Err(NotMade {
-            records,
-            fault: Fault::of_call(reason),
-        })
+        let asked = ask_size(size, records.len());
+        let records = granted(records, asked)?;
+        Ok(CampaignRecords { records, size })
     }
 }

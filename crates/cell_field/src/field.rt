@@ -4,7 +4,7 @@ ghost use Rattle.cam.specs.Model.{tally_cap};
 ghost use Rattle.cam.specs.Defects.{within_limits, has_word, with_stuck_mark, unmarked};
 ghost use Rattle.cam.specs.Refusals.{Asks, AsksIn, ask};
 
-use cam::fault::{Fault, Reason};
+use cam::fault::{Fault, Reason, Returned, granted};
 use cam::index::WordIndex;
 use cam::mark::Mark;
 use cam::size::{LARGEST, Size};
@@ -25,20 +25,17 @@ pub struct CellField<'a, C> {
     ghost tally_within: { tally ≤ tally_cap },
 }
 
-// No field was made: the cells back as they were, and why.
-#[derive(Drop)]
-pub struct NotMade<'a, C> {
-    pub cells: &'a mut [C],
-    pub fault: Fault,
-}
-
-// For a caller that needs the refusal alone.
-impl<C> From<NotMade<'_, C>> for Fault {
-    ghost from_gives = { λ error fault. fault ≡ error.fault };
-
-    fn from(error: NotMade<'_, C>) -> Fault {
-        error.fault
+// Asks for 1 to 256 words of 1 to 64 bits (41), then for a cell for each bit (57).
+fn ask_size(size: Size, cells: usize) -> Result<(), Fault>
+    ensures asks_size_then_cells { Asks (ask (within_limits size.words size.width) 41 ∷ ask (nat_le (size.words * size.width) cells) 57 ∷ []) result }
+{
+    if !size.is_within(LARGEST) {
+        return Err(Fault::of_call(Reason::SizeOutsideLimits));
     }
+    if cells < size.cells() as usize {
+        return Err(Fault::of_call(Reason::BufferTooShort));
+    }
+    Ok(())
 }
 
 impl<'a, C: CellKind> CellField<'a, C> {
@@ -46,24 +43,14 @@ impl<'a, C: CellKind> CellField<'a, C> {
 
     // Makes an array of this size over the caller's cells as they are, marks clear. It asks for 1 to 256 words of 1 to
     // 64 bits (41), then for a cell for each bit (57). Cells past the last word are left alone.
-    pub fn new(cells: &'a mut [C], size: Size) -> Result<CellField<'a, C>, NotMade<'a, C>>
+    pub fn new(cells: &'a mut [C], size: Size) -> Result<CellField<'a, C>, Returned<&'a mut [C]>>
         ensures asks_size_then_cells { AsksIn (λ e. e.fault) (ask (within_limits size.words size.width) 41 ∷ ask (nat_le (size.words * size.width) (length cells.old)) 57 ∷ []) result }
-        ensures cells_as_lent { MatchResult result (λ f. f.cells.now ≡ cells.old) (λ e. e.cells.now ≡ cells.old) }
-        ensures made_of_the_cells { MatchResult result (λ f. field_build C.meaning f ≡ build_from size.words size.width (map C.meaning cells.old) []) (λ e. e.cells.now ≡ cells.old) }
-        ensures marks_clear { MatchResult result (λ f. field_state C.meaning f ≡ state_from size.words size.width (map C.meaning cells.old) [] 0) (λ e. e.cells.now ≡ cells.old) }
+        ensures cells_as_lent { MatchResult result (λ f. f.cells.now ≡ cells.old) (λ e. e.back.now ≡ cells.old) }
+        ensures made_of_the_cells { MatchResult result (λ f. field_build C.meaning f ≡ build_from size.words size.width (map C.meaning cells.old) []) (λ e. e.back.now ≡ cells.old) }
+        ensures marks_clear { MatchResult result (λ f. field_state C.meaning f ≡ state_from size.words size.width (map C.meaning cells.old) [] 0) (λ e. e.back.now ≡ cells.old) }
     {
-        if !size.is_within(LARGEST) {
-            return Err(NotMade {
-                cells,
-                fault: Fault::of_call(Reason::SizeOutsideLimits),
-            });
-        }
-        if cells.len() < size.cells() as usize {
-            return Err(NotMade {
-                cells,
-                fault: Fault::of_call(Reason::BufferTooShort),
-            });
-        }
+        let asked = ask_size(size, cells.len());
+        let cells = granted(cells, asked)?;
         Ok(CellField {
             cells,
             size,

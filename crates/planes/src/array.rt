@@ -3,7 +3,6 @@ ghost use Rattle.std.specs.Prelude.{◌≡◌, ◌≤◌, vec_len};
 ghost use Rattle.cam.specs.Model.{tally_cap};
 
 use crate::word::WordRecord;
-use cam::fault::Fault;
 use cam::size::Size;
 
 // An array over the caller's records, which it keeps until `into_records`. It uses one for each word, the first ones: the
@@ -18,20 +17,4 @@ pub struct PlaneArray {
     ghost few_bits: { size.width ≤ 64 },
     ghost recorded: { size.words ≤ vec_len records },
     ghost tally_within: { tally ≤ tally_cap },
-}
-
-// No array was made: the caller's records back as they were, and why.
-#[derive(Drop)]
-pub struct NotMade {
-    pub records: Vec<WordRecord>,
-    pub fault: Fault,
-}
-
-// Of an array that was not made, the reason alone.
-impl From<NotMade> for Fault {
-    ghost from_gives = { λ not_made fault. fault ≡ not_made.fault };
-
-    fn from(not_made: NotMade) -> Fault {
-        not_made.fault
-    }
 }

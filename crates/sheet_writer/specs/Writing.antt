@@ -1,5 +1,6 @@
 -- What the calls of the sheet writer ask, and what they leave in the buffer.
 use Rattle.std.specs.Prelude.{◌≡◌, ℕ, ◌+◌, Bool, List, [], ◌∷◌, length, Ok, Err, Result, nat_le, nat_lt}
+use Rattle.cam.specs.declared.fault.Returned.{Returned}
 use Rattle.cam.specs.Buffers.{over}
 use Rattle.cam.specs.Refusals.{Question, ask}
 use Rattle.march.specs.declared.element.TestOperation.{TestOperation}
@@ -8,7 +9,6 @@ use Rattle.march.specs.Building.{opened, allows}
 use Rattle.march.specs.Letters.{is_name}
 use Rattle.sheet_writer.specs.declared.states.BetweenElements.{BetweenElements}
 use Rattle.sheet_writer.specs.declared.states.InsideElement.{InsideElement}
-use Rattle.sheet_writer.specs.declared.states.NotWritten.{NotWritten}
 use Rattle.sheet_writer.specs.Sheets.{beginning, heading, operation_piece, ending}
 
 -- whether a piece fits into a buffer from a place on
@@ -43,6 +43,6 @@ end_questions s buffer = ask (fits s.at ending buffer) 61 ∷ ask (nat_lt 0 s.el
 
 -- A call in the state s writes a piece and answers t: the piece stands over the buffer from the state's place on, and
 -- all other bytes are as they were. A refused call hands s back and leaves every byte as it was.
-abbrev pub Writes : {S T : Type 0} → List ℕ → ℕ → S → T → List ℕ → List ℕ → Result T (NotWritten S) → Type 0
+abbrev pub Writes : {S T : Type 0} → List ℕ → ℕ → S → T → List ℕ → List ℕ → Result T (Returned S) → Type 0
 Writes piece at s t old new (Ok r) = (r ≡ t) × (new ≡ over old at piece)
-Writes piece at s t old new (Err e) = (e.state ≡ s) × (new ≡ old)
+Writes piece at s t old new (Err e) = (e.back ≡ s) × (new ≡ old)

@@ -1,9 +1,6 @@
 // The states of a sheet that is being written. Each is plain numbers, and can be made and taken apart only here: a
 // state is spent by the call that it is handed to, and nobody can write an operation where no element is open.
 // A struct of the two numbers that both have would be one more name at each place and shorten none.
-ghost use Rattle.std.specs.Prelude.{◌≡◌, OnOk, IfErr};
-
-use cam::fault::Fault;
 use march::operations::Order;
 
 // No element is open: an element can be opened, or the sheet be ended.
@@ -18,12 +15,6 @@ pub struct InsideElement {
     pub(crate) order: Order,
     pub(crate) elements: u8,
     pub(crate) operations: u8,
-}
-
-// A refused call: the state back as it was, and why.
-pub struct NotWritten<S> {
-    pub state: S,
-    pub fault: Fault,
 }
 
 impl BetweenElements {
@@ -42,16 +33,5 @@ impl InsideElement {
             elements: _,
             operations: _,
         } = self;
-    }
-}
-
-// Hands a state on where each question of the call was answered yes, and else back with the refusal.
-pub(crate) fn granted<S>(state: S, asked: Result<(), Fault>) -> Result<S, NotWritten<S>>
-    ensures granted_where_yes { OnOk asked (result ≡ Ok state) }
-    ensures refused_with_the_state { IfErr asked (λ fault. result ≡ Err (record { state = state; fault = fault })) }
-{
-    match asked {
-        Ok(()) => Ok(state),
-        Err(fault) => Err(NotWritten { state, fault }),
     }
 }

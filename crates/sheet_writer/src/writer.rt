@@ -6,9 +6,9 @@ ghost use Rattle.sheet_writer.specs.Sheets.{beginning, heading, operation_piece,
 ghost use Rattle.sheet_writer.specs.Writing.{between, inside, begin_questions, open_questions, write_questions, close_questions, end_questions, Writes};
 
 use crate::pieces::{ENDING, ask_ending, ask_room, heading as heading_of, operation_piece};
-use crate::states::{BetweenElements, InsideElement, NotWritten, granted};
+use crate::states::{BetweenElements, InsideElement};
 use cam::buffer::put_text;
-use cam::fault::{Fault, Reason};
+use cam::fault::{Fault, Reason, Returned, granted};
 use march::element::TestOperation;
 use march::name::Name;
 use march::operations::Order;
@@ -45,7 +45,7 @@ impl BetweenElements {
         self,
         order: Order,
         buffer: &mut [u8],
-    ) -> Result<InsideElement, NotWritten<BetweenElements>>
+    ) -> Result<InsideElement, Returned<BetweenElements>>
         ensures asks_in_order { AsksIn (λ e. e.fault) (open_questions self order buffer.old) result }
         ensures heading_written { Writes (heading order) self.at self (inside (self.at + length (heading order)) order (self.elements + 1) 0) buffer.old buffer.new result }
     {
@@ -60,7 +60,7 @@ impl BetweenElements {
     }
 
     // Ends the sheet, and answers its length.
-    pub fn end(self, buffer: &mut [u8]) -> Result<usize, NotWritten<BetweenElements>>
+    pub fn end(self, buffer: &mut [u8]) -> Result<usize, Returned<BetweenElements>>
         ensures asks_in_order { AsksIn (λ e. e.fault) (end_questions self buffer.old) result }
         ensures ending_written { Writes ending self.at self (self.at + length ending) buffer.old buffer.new result }
     {
@@ -89,7 +89,7 @@ impl InsideElement {
         self,
         operation: TestOperation,
         buffer: &mut [u8],
-    ) -> Result<InsideElement, NotWritten<InsideElement>>
+    ) -> Result<InsideElement, Returned<InsideElement>>
         ensures asks_in_order { AsksIn (λ e. e.fault) (write_questions self operation buffer.old) result }
         ensures operation_written { Writes (operation_piece operation) self.at self (inside (self.at + length (operation_piece operation)) self.order self.elements (self.operations + 1)) buffer.old buffer.new result }
     {
@@ -101,7 +101,7 @@ impl InsideElement {
     }
 
     // Closes the element.
-    pub fn close(self, buffer: &mut [u8]) -> Result<BetweenElements, NotWritten<InsideElement>>
+    pub fn close(self, buffer: &mut [u8]) -> Result<BetweenElements, Returned<InsideElement>>
         ensures asks_in_order { AsksIn (λ e. e.fault) (close_questions self buffer.old) result }
         ensures ending_written { Writes ending self.at self (between (self.at + length ending) self.elements) buffer.old buffer.new result }
     {

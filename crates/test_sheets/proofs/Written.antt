@@ -10,7 +10,7 @@ use Rattle.cam.proofs.Buffers.{over_nil, over_over}
 use Rattle.march.specs.declared.element.TestOperation.{TestOperation}
 use Rattle.march.specs.Building.{opened, allows}
 use Rattle.sheet_writer.specs.declared.states.InsideElement.{InsideElement}
-use Rattle.sheet_writer.specs.declared.states.NotWritten.{NotWritten}
+use Rattle.cam.specs.declared.fault.Returned.{Returned}
 use Rattle.sheet_writer.specs.Sheets.{operation_piece}
 use Rattle.sheet_writer.specs.Writing.{fits, write_questions}
 
@@ -35,7 +35,7 @@ module _ {X : Type 0} (f : X → List ℕ) (from : ℕ) (old : List ℕ) where
       }
 
 -- a call of the writer whose questions are all answered yes is granted
-pub granted : {S T : Type 0} (qs : List Question) (r : Result T (NotWritten S)) → AsksIn (λ e. e.fault) qs r → first_no qs ≡ 0 → IsOk r
+pub granted : {S T : Type 0} (qs : List Question) (r : Result T (Returned S)) → AsksIn (λ e. e.fault) qs r → first_no qs ≡ 0 → IsOk r
 granted qs (Ok x) asked each = refl
 granted qs (Err e) asked each = absurd (refused_not_0 _ _ asked each)
 

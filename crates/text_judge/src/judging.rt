@@ -4,9 +4,9 @@ ghost use Rattle.words.specs.Readings.{Reading};
 ghost use Rattle.array_text.specs.Texts.{HandedBack};
 ghost use Rattle.text_judge.specs.Judging.{JudgeCall, TextJudged};
 
-use array_text::array::{NotRead, read_array};
+use array_text::array::read_array;
 use bench::judging::{Judged, judge_array};
-use cam::fault::{Fault, Reason};
+use cam::fault::{Fault, Reason, Returned};
 use planes::array::PlaneArray;
 use planes::word::WordRecord;
 
@@ -21,21 +21,21 @@ pub fn judge_text(
     text: &[u8],
     records: Vec<WordRecord>,
     chart: &mut [u8],
-) -> Result<Judged<PlaneArray>, NotRead>
+) -> Result<Judged<PlaneArray>, Returned<Vec<WordRecord>>>
     ensures text_judged { MatchResult result (λ j. TextJudged (vec_len records) text.now chart.old chart.new j.judgement j.array) (λ e. Reading (JudgeCall (vec_len records) (length chart.old) text.now) (Err e.fault)) }
     ensures refused_leaves_the_chart { MatchResult result (λ _. length chart.new ≡ length chart.old) (λ _. chart.new ≡ chart.old) }
-    ensures records_handed_back { MatchResult result (λ _. 256 ≤ vec_len records) (λ e. 16384 ≤ length chart.old → 256 ≤ vec_len records → HandedBack text.now records.items e.records.items) }
-    ensures untouched_without_memory { MatchResult result (λ _. 16384 ≤ length chart.old) (λ e. (length chart.old < 16384 → e.records ≡ records) × (vec_len records < 256 → e.records ≡ records)) }
+    ensures records_handed_back { MatchResult result (λ _. 256 ≤ vec_len records) (λ e. 16384 ≤ length chart.old → 256 ≤ vec_len records → HandedBack text.now records.items e.back.items) }
+    ensures untouched_without_memory { MatchResult result (λ _. 16384 ≤ length chart.old) (λ e. (length chart.old < 16384 → e.back ≡ records) × (vec_len records < 256 → e.back ≡ records)) }
 {
     if chart.len() < CHART_BYTES {
-        return Err(NotRead {
-            records,
+        return Err(Returned {
+            back: records,
             fault: Fault::of_call(Reason::BufferTooShort),
         });
     }
     let array = read_array(text, records)?;
-    judge_array(array, chart).map_err(|not_judged| NotRead {
-        records: not_judged.array.into_records(),
-        fault: not_judged.fault,
+    judge_array(array, chart).map_err(|returned| Returned {
+        back: returned.back.into_records(),
+        fault: returned.fault,
     })
 }

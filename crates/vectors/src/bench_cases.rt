@@ -5,9 +5,9 @@ use crate::output::{Found, put_answer, put_done, put_found, put_numbers, put_ref
 use crate::scanner::Scanner;
 use crate::tickets::TicketOffice;
 use bench::bench::Bench;
-use bench::books::NotClosed;
 use bench::calls::Call;
 use cam::array::CamArray;
+use cam::fault::Returned;
 use cam::operation::Operation;
 use planes::array::PlaneArray;
 use std::io::Write;
@@ -71,8 +71,8 @@ fn answer_close(
     let ticket = office.give(number)?;
     match bench.close(ticket) {
         Ok(finding) => put_found(&mut cases.out, Ok(finding)),
-        Err(NotClosed { ticket, fault }) => {
-            office.take_back(ticket);
+        Err(Returned { back, fault }) => {
+            office.take_back(back);
             put_refused(&mut cases.out, fault)
         }
     }

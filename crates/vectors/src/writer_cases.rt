@@ -3,9 +3,10 @@ use crate::cases::Cases;
 use crate::output::{Output, put_refused};
 use crate::scanner::Scanner;
 use anyhow::{Context, bail};
+use cam::fault::Returned;
 use march::element::{Comparison, TestOperation};
 use march::operations::Order;
-use sheet_writer::states::{BetweenElements, InsideElement, NotWritten};
+use sheet_writer::states::{BetweenElements, InsideElement};
 use std::io::Write;
 use std::str::from_utf8;
 
@@ -53,16 +54,14 @@ impl From<InsideElement> for Sheet {
 }
 
 // How a call went, and where the sheet stands after it.
-type Called = Result<Sheet, NotWritten<Sheet>>;
+type Called = Result<Sheet, Returned<Sheet>>;
 
 // The same of a call with a state, which is refused with it or granted with the next one.
-fn with_sheets<S: Into<Sheet>, T: Into<Sheet>>(called: Result<T, NotWritten<S>>) -> Called {
-    called
-        .map(|next| next.into())
-        .map_err(|NotWritten { state, fault }| NotWritten {
-            state: state.into(),
-            fault,
-        })
+fn with_sheets<S: Into<Sheet>, T: Into<Sheet>>(called: Result<T, Returned<S>>) -> Called {
+    called.map(|next| next.into()).map_err(|Returned { back, fault }| Returned {
+        back: back.into(),
+        fault,
+    })
 }
 
 fn call_between(state: BetweenElements, piece: Piece<'_>, buffer: &mut [u8]) -> Option<Called> {
@@ -95,9 +94,9 @@ impl Sheet {
                 let Piece::Begin(name) = piece else {
                     return None;
                 };
-                let state = Sheet::New;
+                let back = Sheet::New;
                 let begun = BetweenElements::begin(name, buffer).map(Sheet::Between);
-                Some(begun.map_err(|fault| NotWritten { state, fault }))
+                Some(begun.map_err(|fault| Returned { back, fault }))
             }
             Sheet::Between(state) => call_between(state, piece, buffer),
             Sheet::Inside(state) => call_inside(state, piece, buffer),
@@ -150,9 +149,9 @@ fn put_written(out: &mut Output, called: Called, buffer: &[u8]) -> anyhow::Resul
             writeln!(out, "done {length}")?;
             Ok(sheet)
         }
-        Err(NotWritten { state, fault }) => {
+        Err(Returned { back, fault }) => {
             put_refused(out, fault)?;
-            Ok(state)
+            Ok(back)
         }
     }
 }
