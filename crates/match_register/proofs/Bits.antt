@@ -1,10 +1,11 @@
 -- The register's bits, one by one.
-use Rattle.std.proofs.Common.{◌≡◌, ℕ, ◌-◌, ◌^◌, ◌<◌, Bool, true, false, cond, not, ◌&&◌, ◌||◌, eqb, ltb, sym, ap, ◌∙◌, Option, None, Some, refl, arith}
+use Rattle.std.proofs.Common.{◌≡◌, ℕ, ◌-◌, ◌^◌, ◌<◌, Bool, true, false, cond, not, ◌&&◌, ◌||◌, eqb, ltb, sym, ap, ◌∙◌, arith}
 use lib.Bits.{bit_and, bit_or, bit_xor}
 use Rattle.std.proofs.lemmas.Bool.{eq-eqb, eqb-true, eqb-false, ne_eqb, lt-ltb, ltb-true, and_from}
-use Rattle.std.specs.Option.{is_none, unwrap_or}
 use Rattle.cam.specs.Bits.{bit}
-use Rattle.cam.specs.Model.{written_bit, agrees}
+use Rattle.cam.specs.Model.{written_bit, agrees, mark_after_write}
+use Rattle.cam.specs.declared.mark.Mark.{Mark}
+use Rattle.cam.specs.Mark.{is_set, is_stuck}
 use Rattle.cam.specs.declared.defect.Storage.TheVariants.{Good}
 use Rattle.cam.proofs.Below.{split}
 use Rattle.cam.proofs.BitLaws.{bits}
@@ -39,20 +40,16 @@ writing n p m a k j fits z =
     let other : eqb k a ≡ false = ne_eqb k a (λ q. ne (q ∙ z)) in
     simp (e, other))
 
-pub marking : (old new : Option Bool) (a k : ℕ) → a ≡ 0 → unwrap_or new false ≡ not (is_none old)
-    → (eqb k 0 && unwrap_or new false) ≡ cond (eqb k a && ltb k 1) (cond (eqb k 0 && is_none old) (eqb k 0 && unwrap_or old false) true) (eqb k 0 && unwrap_or old false)
+pub marking : (old new : Mark) (a k : ℕ) → a ≡ 0 → is_set new ≡ mark_after_write (is_stuck old) (is_set old)
+    → (eqb k 0 && is_set new) ≡ cond (eqb k a && ltb k 1) (mark_after_write (eqb k 0 && is_stuck old) (eqb k 0 && is_set old)) (eqb k 0 && is_set old)
 marking old new a k z marked =
     split (eqb k 0)
     (λ e.
     let k0 : k ≡ 0 = eqb-true k 0 e in
     let same : eqb k a ≡ true = eq-eqb k a (omega arith) in
     let first : ltb k 1 ≡ true = lt-ltb k 1 (omega arith) in
-    simp (e, same, first, marked) (kept old))
+    simp (e, same, first, marked))
     (λ e.
     let ne : k ≡ 0 → ⊥ = eqb-false k 0 e in
     let other : eqb k a ≡ false = ne_eqb k a (λ q. ne (q ∙ z)) in
     simp (e, other))
-  where
-    kept : (m : Option Bool) → not (is_none m) ≡ cond (is_none m) (unwrap_or m false) true
-    kept None = refl
-    kept (Some b) = refl

@@ -4,6 +4,7 @@ ghost use Rattle.match_register.specs.Register.{register_build, register_state, 
 use crate::register::MatchRegister;
 use cam::array::CamArray;
 use cam::index::WordIndex;
+use cam::mark::Mark;
 use cam::tally::{TALLY_CAP, one_more};
 
 const WORDS: u16 = 1;
@@ -35,7 +36,7 @@ impl CamArray for MatchRegister {
             return;
         }
         self.held = (self.held & mask) | (pattern & !mask);
-        self.mark = self.mark.map(|_| true);
+        self.mark = self.mark.written();
     }
 
     fn read(&mut self, word: WordIndex) -> u64 {
@@ -49,13 +50,13 @@ impl CamArray for MatchRegister {
 
     fn compare(&mut self, pattern: u64, mask: u64) -> bool {
         self.tally = one_more(self.tally);
-        self.mark.unwrap_or(false) & ((self.held ^ pattern) & !mask & 255 == 0)
+        (self.mark == Mark::Set) & ((self.held ^ pattern) & !mask & 255 == 0)
     }
 
     fn erase(&mut self, word: WordIndex) {
         self.tally = one_more(self.tally);
         if word.number < WORDS {
-            self.mark = self.mark.map(|_| false);
+            self.mark = self.mark.erased();
         }
     }
 }

@@ -3,11 +3,13 @@ ghost use Rattle.std.specs.Prelude.{◌≡◌};
 ghost use Rattle.match_register.specs.Register.{register_build, register_state, made_build};
 ghost use Rattle.cam.specs.Defects.{cleared};
 
-// Bits of `held` from 8 up do not count. A stuck mark, which is never set, is `None`.
+use cam::mark::Mark;
+
+// Bits of `held` from 8 up do not count.
 #[derive(Drop)]
 pub struct MatchRegister {
     pub(crate) held: u64,
-    pub(crate) mark: Option<bool>,
+    pub(crate) mark: Mark,
     pub(crate) tally: u64,
 }
 
@@ -18,7 +20,7 @@ impl MatchRegister {
     {
         MatchRegister {
             held: 0,
-            mark: (!stuck).then_some(false),
+            mark: if stuck { Mark::Stuck } else { Mark::Clear },
             tally: 0,
         }
     }

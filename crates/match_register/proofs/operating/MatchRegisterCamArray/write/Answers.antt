@@ -1,5 +1,4 @@
-use Rattle.std.proofs.Common.{◌≡◌, ℕ, ◌^◌, ◌<◌, ◌-◌, false, not, ap, ◌∙◌, bit_and, bit_or, arith, rules}
-use Rattle.std.specs.Option.{is_none, unwrap_or}
+use Rattle.std.proofs.Common.{◌≡◌, ℕ, ◌^◌, ◌<◌, ◌-◌, ap, ◌∙◌, bit_and, bit_or, arith, rules}
 use Rattle.cam.proofs.Outside.{tally_more}
 use Rattle.match_register.specs.declared.register.MatchRegister.{MatchRegister}
 use Rattle.match_register.specs.Register.{register_state}
@@ -14,8 +13,7 @@ returns-clause-state_after_write c =
     let m = c.args.mask in
     let fits : m < 2 ^ 64 = search rules in
     let z : a ≡ 0 = omega arith in
-    let marked : unwrap_or c.map-self.result false ≡ not (is_none r.mark) = search rules in
     let after : ℕ → MatchRegister = λ t.
-    record { held = bit_or (bit_and r.held m) (bit_and p (18446744073709551615 - m)); mark = c.map-self.result; tally = t } in
+    record { held = bit_or (bit_and r.held m) (bit_and p (18446744073709551615 - m)); mark = c.written-self.result; tally = t } in
     ap (λ t. register_state (after t)) c.one_more-self.ensures.next
-    ∙ λ d. record { held = λ k j. writing r.held p m a k j fits z d; mark = λ k. marking r.mark c.map-self.result a k z marked d; tally = tally_more r.tally d }
+    ∙ λ d. record { held = λ k j. writing r.held p m a k j fits z d; mark = λ k. marking r.mark c.written-self.result a k z c.written-self.ensures.set_unless_stuck d; tally = tally_more r.tally d }
