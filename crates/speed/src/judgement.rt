@@ -1,19 +1,14 @@
-// Work: a whole judgement of an array of 256 words of 64 bits with a handful of defects.
+// Work: a whole judgement of an array of the largest size, 256 words of 64 bits, with a handful of defects.
 use crate::checksum::{START, fold_all};
 use bench::judging::{Judged, Judgement, judge_array};
 use cam::defect::{Pair, StorageDefect};
 use cam::fault::Fault;
 use cam::index::{CellIndex, WordIndex};
-use cam::size::Size;
+use cam::size::LARGEST;
 use planes::array::PlaneArray;
 use planes::word::WordRecord;
 
-const SIZE: Size = Size {
-    words: 256,
-    width: 64,
-};
-
-const CELLS: usize = 16384;
+const CELLS: usize = LARGEST.words as usize * LARGEST.width as usize;
 
 // The storage defects and the wrong pairs of the array, by word and column.
 const STORAGE: [(u16, u8, StorageDefect); 4] = [
@@ -55,7 +50,7 @@ fn plant_some(array: &mut PlaneArray) -> Result<(), Fault> {
 
 // The array under test, new.
 fn made(records: Vec<WordRecord>) -> Result<PlaneArray, Fault> {
-    let mut array = PlaneArray::new(records, SIZE)?;
+    let mut array = PlaneArray::new(records, LARGEST)?;
     plant_some(&mut array)?;
     Ok(array)
 }

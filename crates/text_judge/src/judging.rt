@@ -7,11 +7,12 @@ ghost use Rattle.text_judge.specs.Judging.{JudgeCall, TextJudged};
 use array_text::array::read_array;
 use bench::judging::{Judged, judge_array};
 use cam::fault::{Fault, Reason, Returned};
+use cam::size::LARGEST;
 use planes::array::PlaneArray;
 use planes::word::WordRecord;
 
 // The bytes of the chart of the largest array.
-pub const CHART_BYTES: usize = 16384;
+pub const CHART_BYTES: usize = LARGEST.words as usize * LARGEST.width as usize;
 
 // Reads the text of an array, runs MLT-1 on the array that it describes, and draws its chart at the front of a buffer.
 // It asks first of all for memory for the largest array (57), 16,384 bytes and 256 records, then the questions of the
