@@ -5,8 +5,9 @@ ghost use Rattle.cam.specs.Defects.{in_set, response, storage_with};
 
 // How a cell stores: good; always 0 or always 1; holding 0 it does not rise, holding 1 it does not fall. Good is a case
 // and not the `None` of an `Option` of a defect, which would make each of the many matches on it a step deeper.
-#[derive(Clone, Copy, PartialEq, Eq)]
+#[derive(Clone, Copy, Default, PartialEq, Eq)]
 pub enum Storage {
+    #[default]
     Good,
     Sa0,
     Sa1,
@@ -45,7 +46,7 @@ pub struct Pair {
 }
 
 // The pairs for which a cell's answer is reversed. A sound cell has none.
-#[derive(Clone, Copy, PartialEq, Eq)]
+#[derive(Clone, Copy, Default, PartialEq, Eq)]
 pub struct WrongSet {
     pub has00: bool,
     pub has01: bool,

@@ -6,8 +6,8 @@ use crate::kind::CellKind;
 use cam::defect::{Pair, Storage, WrongSet};
 
 // A cell that stores its held bit, its storage and its wrong set as they are. An sa0 cell counts as holding 0 and an sa1
-// cell as holding 1, whatever `held` says.
-#[derive(Clone, Copy, PartialEq, Eq)]
+// cell as holding 1, whatever `held` says. The default is a sound cell that holds 0.
+#[derive(Clone, Copy, Default, PartialEq, Eq)]
 pub struct TableCell {
     pub held: bool,
     pub storage: Storage,

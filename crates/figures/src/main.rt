@@ -21,7 +21,7 @@ const BLIND: &[u8] =
 
 fn rows_of(rt: &HostRuntime, test: &Test, size: Size) -> anyhow::Result<[Row; 15]> {
     let records = vec![in rt.alloc(); WordRecord::blank(); 16]?;
-    let mut rows = [Row::EMPTY; 15];
+    let mut rows = [Row::default(); 15];
     campaign(test, size, records, &mut rows).map_err(Fault::from)?;
     Ok(rows)
 }

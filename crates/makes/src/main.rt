@@ -4,7 +4,7 @@
 
 use bench::judging::{Judgement, judge_array};
 use cam::array::CamArray;
-use cam::defect::{Pair, Storage, StorageDefect, WrongSet};
+use cam::defect::{Pair, Storage, StorageDefect};
 use cam::fault::Fault;
 use cam::index::{CellIndex, WordIndex};
 use cam::size::Size;
@@ -14,17 +14,6 @@ use cells::transistor::{Position, TransistorCell, TransistorFault};
 use planes::array::PlaneArray;
 use planes::word::WordRecord;
 use std::alloc::Global;
-
-const SOUND: TableCell = TableCell {
-    held: false,
-    storage: Storage::Good,
-    wrong_set: WrongSet {
-        has00: false,
-        has01: false,
-        has11: false,
-        has10: false,
-    },
-};
 
 // Of the arrays with the same defects: cell (1, 2) is stuck at 0, cell (0, 0) answers the pair 01 wrongly, and the mark
 // of word 1 is stuck.
@@ -63,7 +52,7 @@ fn judged_planes(records: Vec<WordRecord>, chart: &mut [u8]) -> Result<Judgement
 }
 
 fn judged_cells(chart: &mut [u8]) -> Result<Judgement, Fault> {
-    let mut cells = [SOUND; 6];
+    let mut cells = [TableCell::default(); 6];
     cells[0].wrong_set.has01 = true;
     cells[5].storage = Storage::Sa0;
     let mut field = CellField::new(&mut cells, SIZE)?;

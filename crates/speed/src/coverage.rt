@@ -25,7 +25,7 @@ fn fold_row(sum: u64, row: &Row) -> u64 {
 pub(crate) fn campaign_rows(rt: &HostRuntime, repeats: u32) -> anyhow::Result<u64> {
     let test = mlt1_test();
     let mut records = vec![in rt.alloc(); WordRecord::blank(); 16]?;
-    let mut rows = [Row::EMPTY; 15];
+    let mut rows = [Row::default(); 15];
     let mut sum = START;
     for _ in 0..repeats {
         records = campaign(&test, SIZE, records, &mut rows).map_err(Fault::from)?;

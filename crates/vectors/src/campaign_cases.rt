@@ -10,7 +10,7 @@ pub(crate) fn answer_campaign(cases: &mut Cases<'_>) -> anyhow::Result<()> {
     let test = cases.test()?;
     let size = cases.size()?;
     let records = vec![in cases.heap; WordRecord::blank(); cases.header.number()?]?;
-    let mut rows = [Row::EMPTY; 15];
+    let mut rows = [Row::default(); 15];
     if let Err(refused) = campaign(&test, size, records, &mut rows) {
         return put_refused(&mut cases.out, refused.into());
     }

@@ -33,12 +33,14 @@ impl TicketOffice {
         }
     }
 
-    // The ticket of this number, from an office that has given none yet.
-    pub(crate) fn give(&mut self, number: u64) -> anyhow::Result<Ticket> {
+    // The ticket of this number, and the office that gives it.
+    pub(crate) fn with_ticket(heap: Global, number: u64) -> anyhow::Result<(TicketOffice, Ticket)> {
+        let mut office = TicketOffice::open(heap)?;
         for _ in 1..number {
-            self.spend_number();
+            office.spend_number();
         }
-        self.bench.start().context("no ticket")
+        let ticket = office.bench.start().context("no ticket")?;
+        Ok((office, ticket))
     }
 
     pub(crate) fn take_back(&mut self, ticket: Ticket) {

@@ -14,6 +14,6 @@ returns c = record {
   asks_then_makes = record {
     asks = grind (arith, c.if-buffer-lt64.false, common_steps);
     makes = writing_made _ c.args.pieces.now _ c.loop-label.label-index _ _ _ _ c.loop-label-test.false c.if-buffer-lt64.false c.loop-label.invariant
-      c.put_text.ensures.written_over c.put_text.ensures.place_after;
+        c.put_text.ensures.written_over c.put_text.ensures.place_after;
   };
 }
