@@ -55,6 +55,7 @@ pub fn read_array(
         }),
     };
     let mut array = PlaneArray::new(records, size)?;
+    // a match, since both ways out take the array along
     match add_rest(&mut cursor, &mut array) {
         Ok(()) => Ok(array),
         Err(fault) => Err(Returned {

@@ -82,6 +82,7 @@ pub fn judge_array<C: CamArray>(array: C, buffer: &mut [u8]) -> Result<Judged<C>
     let mut bench = Bench::new(array);
     let judged = judge_on(&mut bench, buffer);
     let array = bench.into_array();
+    // a match, since both ways out take the array along
     match judged {
         Ok(judgement) => Ok(Judged { array, judgement }),
         Err(fault) => Err(Returned { back: array, fault }),

@@ -81,6 +81,7 @@ impl<C: CamArray> Bench<C> {
         ensures ticket_handed_back { IfErr result (λ e. e.back ≡ ticket) }
         ensures refused_changes_nothing { OnErr result (self.new ≡ self.old) }
     {
+        // a match, since both ways out have use for the ticket
         match self.ended_run(ticket.number) {
             Ok(run) => {
                 let Ticket { number: _ } = ticket;

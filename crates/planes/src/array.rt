@@ -6,7 +6,8 @@ use crate::word::WordRecord;
 use cam::size::Size;
 
 // An array over the caller's records, which it keeps until `into_records`. It uses one for each word, the first ones: the
-// caller may hand over more and gets them all back, so the number of words stands beside them.
+// caller may hand over more and gets them all back, so the number of words stands beside them. The
+// limits of the size stand here and in a cell field: a type for them would be opened at each use and save no line.
 #[derive(Drop)]
 pub struct PlaneArray {
     pub(crate) records: Vec<WordRecord>,
