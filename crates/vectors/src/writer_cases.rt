@@ -57,15 +57,9 @@ impl From<InsideElement> for Sheet {
 type Called = Result<Sheet, Returned<Sheet>>;
 
 // The same of a call with a state, which is refused with it or granted with the next one.
-<<<<<<< HEAD
 fn with_sheets<S: Into<Sheet>, T: Into<Sheet>>(called: Result<T, Returned<S>>) -> Called {
     called.map(|next| next.into()).map_err(|Returned { back, fault }| Returned {
         back: back.into(),
-=======
-fn with_sheets<S: Into<Sheet>, T: Into<Sheet>>(called: Result<T, NotWritten<S>>) -> Called {
-    called.map(|next| next.into()).map_err(|NotWritten { state, fault }| NotWritten {
-        state: state.into(),
->>>>>>> dab44e4 (cam, cells, campaigns: default values; vectors: a bench case as a struct)
         fault,
     })
 }
