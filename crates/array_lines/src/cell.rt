@@ -28,7 +28,7 @@ pub enum Defect {
     },
 }
 
-// The word that says what is wrong with a cell.
+// The word that says what is wrong with a cell. No `Option` of a storage defect, since each case is a word that is read.
 #[derive(Clone, Copy)]
 pub enum CellWord {
     Storage(StorageDefect),

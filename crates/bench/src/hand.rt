@@ -1,6 +1,7 @@
 // Operations by hand. Each asks whether no run is in hand (51), then, where it has one, for the word (52) and for the
 // pattern and the mask (53), and last whether the tally stays within the bench's limit (54).
-// `build_stays` is written out in each call of the bench, as the array's own contracts have it: a name is no shorter.
+// `build_stays` and `refused_changes_nothing` are written out in each call of the bench, as the array's own contracts have
+// theirs: a name is no shorter.
 ghost use Rattle.std.specs.Prelude.{◌≡◌, ◌&&◌, IfOk, OnOk, OnErr, nat_lt};
 ghost use Rattle.std.specs.Fn.{FnOnceReturnsAtMut};
 ghost use Rattle.cam.specs.Model.{written, erased, counted, read_word, hit};

@@ -6,7 +6,8 @@ use crate::index::WordIndex;
 
 // A content addressable memory. Whoever implements it says by ghost members what his array means, and proves each
 // contract against that meaning; all code of the bench is proved from these contracts alone. A pattern and a mask are two
-// parameters, as a memory has a register for each: whoever compares changes one and keeps the other.
+// parameters, as a memory has a register for each: whoever compares changes one and keeps the other. That the build stays
+// is said by each function that operates an array: it is a fact of before and after, which no type holds.
 pub trait CamArray {
     // what never changes: words, bits of a word, and the defects
     ghost build: { Self → Build };

@@ -1,7 +1,9 @@
 // How large an array is.
-ghost use Rattle.std.specs.Prelude.{◌≡◌, ◌*◌, ◌&&◌, nat_le};
+ghost use Rattle.std.specs.Prelude.{◌≡◌, ◌*◌, ◌&&◌, [], ◌∷◌, nat_le};
+ghost use Rattle.cam.specs.Refusals.{Asks, ask, reason_number};
 
 use crate::array::CamArray;
+use crate::fault::{Fault, Reason};
 
 // Words, and bits of a word. Any two numbers: what makes an array asks whether they are within its limits.
 #[derive(Clone, Copy, PartialEq, Eq)]
@@ -22,6 +24,26 @@ impl Size {
         ensures some_and_no_more { result ≡ ((nat_le 1 self.words && nat_le self.words most.words) && (nat_le 1 self.width && nat_le self.width most.width)) }
     {
         (1..=most.words).contains(&self.words) && (1..=most.width).contains(&self.width)
+    }
+
+    // Asks for a size within `most`, refused else for this reason, and then for as many records or cells as an array
+    // of it needs (57).
+    pub fn ask_fit(
+        self,
+        most: Size,
+        reason: Reason,
+        needed: u32,
+        there: usize,
+    ) -> Result<(), Fault>
+        ensures asks_size_then_room { Asks (ask ((nat_le 1 self.words && nat_le self.words most.words) && (nat_le 1 self.width && nat_le self.width most.width)) (reason_number reason) ∷ ask (nat_le needed there) 57 ∷ []) result }
+    {
+        if !self.is_within(most) {
+            return Err(Fault::of_call(reason));
+        }
+        if there < needed as usize {
+            return Err(Fault::of_call(Reason::BufferTooShort));
+        }
+        Ok(())
     }
 
     // How many cells there are.

@@ -18,6 +18,7 @@ use march::test::Test;
 use planes::array::PlaneArray;
 use planes::word::WordRecord;
 
+// That the size stays is a fact of before and after, which no type holds; so each method says it.
 impl CampaignRecords {
     // At how many of its places a fault is detected.
     fn count_detected(&mut self, test: &Test, fault: CampaignFault) -> u32

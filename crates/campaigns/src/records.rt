@@ -1,9 +1,9 @@
 // The caller's records, and how large the arrays are that a campaign makes of them.
 ghost use Rattle.std.specs.Prelude.{◌≡◌, ◌≤◌, vec_len, IfOk, MatchResult};
-ghost use Rattle.cam.specs.Refusals.{Asks, AsksIn};
+ghost use Rattle.cam.specs.Refusals.{AsksIn};
 ghost use Rattle.campaigns.specs.Campaigns.{campaign_questions};
 
-use cam::fault::{Fault, Reason, Returned, granted};
+use cam::fault::{Reason, Returned, granted};
 use cam::size::Size;
 use planes::word::WordRecord;
 
@@ -25,19 +25,6 @@ pub(crate) struct CampaignRecords {
     ghost record_a_word: { size.words ≤ vec_len records },
 }
 
-// Asks for 1 to 16 words of 1 to 16 bits (81), then for a record for each word (57).
-fn ask_size(size: Size, records: usize) -> Result<(), Fault>
-    ensures asks_size_then_records { Asks (campaign_questions size.words size.width records) result }
-{
-    if !size.is_within(LARGEST) {
-        return Err(Fault::of_call(Reason::CampaignTooLarge));
-    }
-    if records < size.words as usize {
-        return Err(Fault::of_call(Reason::BufferTooShort));
-    }
-    Ok(())
-}
-
 impl CampaignRecords {
     // Asks for 1 to 16 words of 1 to 16 bits (81), then for a record for each word (57).
     pub(crate) fn new(
@@ -48,7 +35,12 @@ impl CampaignRecords {
         ensures these_records { MatchResult result (λ own. own.records ≡ records) (λ e. e.back ≡ records) }
         ensures this_size { IfOk result (λ own. own.size ≡ size) }
     {
-        let asked = ask_size(size, records.len());
+        let asked = size.ask_fit(
+            LARGEST,
+            Reason::CampaignTooLarge,
+            size.words.into(),
+            records.len(),
+        );
         let records = granted(records, asked)?;
         Ok(CampaignRecords { records, size })
     }

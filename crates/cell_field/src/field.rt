@@ -25,19 +25,6 @@ pub struct CellField<'a, C> {
     ghost tally_within: { tally ≤ tally_cap },
 }
 
-// Asks for 1 to 256 words of 1 to 64 bits (41), then for a cell for each bit (57).
-fn ask_size(size: Size, cells: usize) -> Result<(), Fault>
-    ensures asks_size_then_cells { Asks (ask (within_limits size.words size.width) 41 ∷ ask (nat_le (size.words * size.width) cells) 57 ∷ []) result }
-{
-    if !size.is_within(LARGEST) {
-        return Err(Fault::of_call(Reason::SizeOutsideLimits));
-    }
-    if cells < size.cells() as usize {
-        return Err(Fault::of_call(Reason::BufferTooShort));
-    }
-    Ok(())
-}
-
 impl<'a, C: CellKind> CellField<'a, C> {
     ghost use Rattle.cell_field.specs.Field.{field_build, field_state, build_from, state_from};
 
@@ -49,7 +36,12 @@ impl<'a, C: CellKind> CellField<'a, C> {
         ensures made_of_the_cells { MatchResult result (λ f. field_build C.meaning f ≡ build_from size.words size.width (map C.meaning cells.old) []) (λ e. e.back.now ≡ cells.old) }
         ensures marks_clear { MatchResult result (λ f. field_state C.meaning f ≡ state_from size.words size.width (map C.meaning cells.old) [] 0) (λ e. e.back.now ≡ cells.old) }
     {
-        let asked = ask_size(size, cells.len());
+        let asked = size.ask_fit(
+            LARGEST,
+            Reason::SizeOutsideLimits,
+            size.cells(),
+            cells.len(),
+        );
         let cells = granted(cells, asked)?;
         Ok(CellField {
             cells,

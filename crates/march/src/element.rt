@@ -9,7 +9,7 @@ use cam::index::{ColumnIndex, WordIndex};
 use cam::operation::Operation;
 use cam::size::Size;
 
-// A compare of equal bits, and whether a hit is expected.
+// A compare of equal bits, and whether a hit is expected. No `Pair`, whose bits are a cell's and a comparand's.
 #[derive(Clone, Copy, Default)]
 pub struct Comparison {
     pub bit: bool,

@@ -1,12 +1,12 @@
 // Making a plane array from the caller's records, and handing them back.
 ghost use Rattle.std.specs.Prelude.{◌≡◌, ◌≤◌, true, false, [], ◌∷◌, length, vec_len, MatchResult, nat_le};
 ghost use Rattle.cam.specs.Defects.{within_limits, flawless, cleared};
-ghost use Rattle.cam.specs.Refusals.{Asks, AsksIn, ask};
+ghost use Rattle.cam.specs.Refusals.{AsksIn, ask};
 ghost use Rattle.planes.specs.Planes.{build_of, state_of, blanked};
 
 use crate::array::PlaneArray;
 use crate::word::WordRecord;
-use cam::fault::{Fault, Reason, Returned, granted};
+use cam::fault::{Reason, Returned, granted};
 use cam::size::{LARGEST, Size};
 
 // Blanks the first `count` records.
@@ -15,19 +15,6 @@ fn blank_first(records: &mut [WordRecord], count: usize)
     ensures first_blank_others_stay { records.new ≡ blanked count records.old }
 {
     records[..count].fill(WordRecord::blank());
-}
-
-// Asks for 1 to 256 words of 1 to 64 bits (41), then for a record for each word (57).
-fn ask_size(size: Size, records: usize) -> Result<(), Fault>
-    ensures asks_size_then_records { Asks (ask (within_limits size.words size.width) 41 ∷ ask (nat_le size.words records) 57 ∷ []) result }
-{
-    if !size.is_within(LARGEST) {
-        return Err(Fault::of_call(Reason::SizeOutsideLimits));
-    }
-    if records < size.words as usize {
-        return Err(Fault::of_call(Reason::BufferTooShort));
-    }
-    Ok(())
 }
 
 impl PlaneArray {
@@ -43,7 +30,12 @@ impl PlaneArray {
         ensures made_cleared { MatchResult result (λ p. state_of p ≡ cleared) (λ e. e.back ≡ records) }
         ensures later_records_stay { MatchResult result (λ p. p.records.items ≡ blanked size.words records.items) (λ e. e.back ≡ records) }
     {
-        let asked = ask_size(size, records.len());
+        let asked = size.ask_fit(
+            LARGEST,
+            Reason::SizeOutsideLimits,
+            size.words.into(),
+            records.len(),
+        );
         let mut records = granted(records, asked)?;
         blank_first(records.as_mut_slice(), size.words as usize);
         Ok(PlaneArray {

@@ -8,7 +8,7 @@ use cam::buffer::put_text;
 use cam::fault::{Fault, Reason};
 use itoa::Buffer;
 
-// Writes a number from a place of a buffer on, and gives the place after it.
+// Writes a number from a place of a buffer on, and gives the place after it. Both come apart, as for `put_text`.
 fn put_number(buffer: &mut [u8], at: usize, number: u32) -> usize
     requires room { at + 10 ≤ length buffer.old }
     ensures written_over { buffer.new ≡ over buffer.old at (decimal number) }

@@ -13,7 +13,7 @@ use words::cursor::Cursor;
 use words::form::{Spelled, not_wanted};
 use words::token::Kind;
 
-// The word that a line begins with.
+// The word that a line begins with. No `Option` of an order, since each case is a word that is read.
 #[derive(Clone, Copy)]
 pub enum LineWord {
     Note,

@@ -11,7 +11,7 @@ use march::naming::is_letter_or_digit;
 
 const LONGEST_WORD: usize = 16;
 
-// What was read of the text lies before `at`.
+// What was read of the text lies before `at`: a place and no shorter slice, since a refusal names it.
 #[derive(Clone, Copy)]
 pub struct Cursor<'a> {
     pub text: &'a [u8],
