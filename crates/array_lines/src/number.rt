@@ -49,7 +49,11 @@ fn read_number(cursor: &mut Cursor) -> Result<Number, Fault>
 }
 
 // Reads a number, and asks whether it is within these limits; else it is refused for this reason.
-pub fn number_within(cursor: &mut Cursor, limits: Range<u16>, reason: Reason) -> Result<Number, Fault>
+pub fn number_within(
+    cursor: &mut Cursor,
+    limits: Range<u16>,
+    reason: Reason,
+) -> Result<Number, Fault>
     ensures reading { Reading (NumberWithin limits.start limits.end reason cursor.old.text.now cursor.old.at) (come_to cursor.new.at result) }
     ensures goes_on { GoesOn cursor.old cursor.new }
 {

@@ -28,13 +28,7 @@ impl Size {
 
     // Asks for a size within `most`, refused else for this reason, and then for as many records or cells as an array
     // of it needs (57).
-    pub fn ask_fit(
-        self,
-        most: Size,
-        reason: Reason,
-        needed: u32,
-        there: usize,
-    ) -> Result<(), Fault>
+    pub fn ask_fit(self, most: Size, reason: Reason, needed: u32, there: usize) -> Result<(), Fault>
         ensures asks_size_then_room { Asks (ask ((nat_le 1 self.words && nat_le self.words most.words) && (nat_le 1 self.width && nat_le self.width most.width)) (reason_number reason) ∷ ask (nat_le needed there) 57 ∷ []) result }
     {
         if !self.is_within(most) {
