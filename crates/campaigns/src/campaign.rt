@@ -56,7 +56,7 @@ impl CampaignRecords {
         ensures row_of_each_fault { rows.new ≡ map (row_of (elements_of test.now) self.old.size.words self.old.size.width) campaign_faults }
         ensures size_stays { self.new.size ≡ self.old.size }
     {
-        // rows by their numbers: what an iterator has written to them would not be known afterwards
+        // rows by their numbers: tried with a zip of `iter_mut`, what was written to them stayed open
         for (number, fault) in faults_of_rows().iter().enumerate() {
             rows[number] = self.tell(test, *fault);
         }

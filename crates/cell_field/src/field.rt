@@ -11,7 +11,8 @@ use cam::size::{LARGEST, Size};
 use cells::kind::CellKind;
 
 // An array over lent cells: cell (a, j) stands at a × width + j. The marks and the tally are its own, room for the marks
-// of the largest array included, since the caller hands over cells alone and a library allocates nothing.
+// of the largest array included, since the caller hands over cells alone and a library allocates nothing. The limits of
+// its size stand in it as in a plane array: a type for them would be opened at each use.
 #[derive(Drop)]
 pub struct CellField<'a, C> {
     pub(crate) cells: &'a mut [C],

@@ -1,4 +1,5 @@
-// Rows of cells: the cells of a word stand side by side.
+// Rows of cells: the cells of a word stand side by side. Each function asks for at most 64 of them: a struct of a row with
+// that limit would be made anew for each call, once to read and once to write.
 ghost use Rattle.std.specs.Prelude.{◌≡◌, ℕ, ◌<◌, ◌≤◌, map, length};
 ghost use Rattle.cam.specs.Model.{value};
 ghost use Rattle.cell_field.specs.Row.{at, wrote_cell, row_matches};

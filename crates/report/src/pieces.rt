@@ -19,7 +19,7 @@ fn put_number(buffer: &mut [u8], at: usize, number: u32) -> usize
 }
 
 // Makes a line of labels with a number after each, and an end, at the front of a buffer of 64 bytes or more (57), and
-// gives its length.
+// gives its length. By hand and not by `write!`, which would tell a proof its bytes only of a `String`, on a heap.
 pub(crate) fn line(buffer: &mut [u8], pieces: &[(&[u8], u32)], end: &[u8]) -> Result<usize, Fault>
     requires short { longest pieces.now + length end.now ≤ 64 }
     ensures asks_then_makes { AsksThenMakes (line_of pieces.now end.now) buffer.old buffer.new result }

@@ -11,7 +11,7 @@ use march::operations::Order;
 // How an element ends, and how a sheet ends.
 pub const ENDING: &[u8] = b")\n";
 
-// Asks whether a piece fits into a buffer from a place on (61).
+// Asks whether a piece fits into a buffer from a place on (61). They come apart, since the buffer comes with each call.
 pub(crate) fn ask_room(buffer: &[u8], at: usize, piece: &[u8]) -> Result<(), Fault>
     ensures asks_room { Asks (ask (fits at piece.now buffer.now) 61 ∷ []) result }
 {
@@ -32,7 +32,7 @@ pub(crate) fn ask_ending(buffer: &[u8], at: usize, inside: u8) -> Result<(), Fau
     Ok(())
 }
 
-// How an element begins.
+// How an element begins. Texts and no `Display`, since a piece's length is asked before any of it is written.
 pub fn heading(order: Order) -> &'static [u8]
     ensures heading_of_order { result.now ≡ heading order }
 {

@@ -66,7 +66,7 @@ fn fold_judgement(sum: u64, judgement: Judgement, chart: &[u8]) -> u64 {
 }
 
 pub(crate) fn judgements(rt: &HostRuntime, repeats: u32) -> anyhow::Result<u64> {
-    let mut records = vec![in rt.alloc(); WordRecord::blank(); 256]?;
+    let mut records = vec![in rt.alloc(); WordRecord::blank(); LARGEST.words as usize]?;
     let mut chart = vec![in rt.alloc(); 0u8; CELLS]?;
     let mut sum = START;
     for _ in 0..repeats {

@@ -21,25 +21,20 @@ enum Work {
     Reading,
 }
 
-const WORKS: [Work; 3] = [Work::Judgement, Work::Campaign, Work::Reading];
+const WORKS: [(&str, Work); 3] = [
+    ("judgement", Work::Judgement),
+    ("campaign", Work::Campaign),
+    ("reading", Work::Reading),
+];
 
 impl Work {
-    fn name(self) -> &'static str {
-        match self {
-            Work::Judgement => "judgement",
-            Work::Campaign => "campaign",
-            Work::Reading => "reading",
-        }
-    }
-
-    // Does the work that often, and tells the checksum of its results.
-    fn tell(self, rt: &HostRuntime, repeats: u32) -> anyhow::Result<()> {
+    // Does the work that often, and tells the checksum of its results beside its name.
+    fn tell(self, rt: &HostRuntime, name: &str, repeats: u32) -> anyhow::Result<()> {
         let sum = match self {
             Work::Judgement => judgements(rt, repeats)?,
             Work::Campaign => campaign_rows(rt, repeats)?,
             Work::Reading => readings(rt, repeats)?,
         };
-        let name = self.name();
         println!(rt; "{name} {sum}")?;
         Ok(())
     }
@@ -47,13 +42,14 @@ impl Work {
 
 fn tell_one(rt: &HostRuntime, name: &str, repeats: &str) -> anyhow::Result<()> {
     let repeats = repeats.parse::<u32>()?;
-    let work = WORKS.iter().find(|work| work.name() == name);
-    work.context("no such work")?.tell(rt, repeats)
+    let found = WORKS.iter().find(|(known, _)| *known == name);
+    let (name, work) = *found.context("no such work")?;
+    work.tell(rt, name, repeats)
 }
 
 fn tell_all(rt: &HostRuntime) -> anyhow::Result<()> {
-    for work in WORKS {
-        work.tell(rt, 1)?;
+    for (name, work) in WORKS {
+        work.tell(rt, name, 1)?;
     }
     Ok(())
 }

@@ -1,6 +1,6 @@
 // Work: reading the largest array text.
 use crate::checksum::{START, fold_record, fold_records};
-use array_text::array::read_array;
+use array_text::array::{RECORDS, read_array};
 use cam::fault::Fault;
 use planes::word::WordRecord;
 use std::alloc::{AllocError, Global};
@@ -44,7 +44,7 @@ fn largest_text(heap: Global) -> anyhow::Result<Vec<u8>> {
 // Reads the text that often. Each reading takes one record into the checksum, the last one all of them.
 pub(crate) fn readings(rt: &HostRuntime, repeats: u32) -> anyhow::Result<u64> {
     let text = largest_text(rt.alloc())?;
-    let mut records = vec![in rt.alloc(); WordRecord::blank(); 256]?;
+    let mut records = vec![in rt.alloc(); WordRecord::blank(); RECORDS]?;
     let mut sum = START;
     for number in 0..repeats {
         let array = read_array(text.as_slice(), records).map_err(Fault::from)?;

@@ -14,8 +14,8 @@ use cam::size::size_of;
 use march::step::{Step, perform};
 use march::test::Test;
 
-// What a trial has done so far, and how many outcomes are written: the place of the next one in the buffer. It is a number,
-// since a proof knows nothing of a buffer's bytes after an iterator wrote them.
+// What a trial has done so far, and how many outcomes are written: the place of the next one in the buffer. It is a number:
+// of bytes written through an `IterMut` that is kept from step to step a proof knows nothing.
 #[derive(Clone, Copy, Default)]
 pub(crate) struct Log {
     pub(crate) so_far: TrialResult,

@@ -69,13 +69,11 @@ impl BenchCase<'_> {
 
     fn answer_close(&mut self, number: u64) -> anyhow::Result<()> {
         let (mut office, ticket) = TicketOffice::with_ticket(self.heap, number)?;
-        match self.bench.close(ticket) {
-            Ok(finding) => put_found(self.out, Ok(finding)),
-            Err(Returned { back, fault }) => {
-                office.take_back(back);
-                put_refused(self.out, fault)
-            }
-        }
+        let closed = self.bench.close(ticket).map_err(|Returned { back, fault }| {
+            office.take_back(back);
+            fault
+        });
+        put_found(self.out, closed)
     }
 
     fn answer_quit(&mut self, number: u64) -> anyhow::Result<()> {
