@@ -13,7 +13,8 @@ const LARGEST: Size = Size {
     width: 16,
 };
 
-// Records for arrays of 1 to 16 words of 1 to 16 bits, one for each word at least.
+// Records for arrays of 1 to 16 words of 1 to 16 bits, one for each word at least. The limits stand in it as in a plane
+// array: a type for them would be opened at each use.
 #[derive(Drop)]
 pub(crate) struct CampaignRecords {
     pub(crate) records: Vec<WordRecord>,

@@ -21,7 +21,7 @@ pub(crate) fn ask_room(buffer: &[u8], at: usize, piece: &[u8]) -> Result<(), Fau
     Ok(())
 }
 
-// Before an ending: does it fit (61), and is something inside what it ends (62)?
+// Before an ending: does it fit (61), and is something inside what it ends (62)? Buffer and place come apart here too.
 pub(crate) fn ask_ending(buffer: &[u8], at: usize, inside: u8) -> Result<(), Fault>
     ensures asks_in_order { Asks (ask (fits at ending buffer.now) 61 ∷ ask (nat_lt 0 inside) 62 ∷ []) result }
 {
