@@ -109,6 +109,7 @@ pub fn draw<C: CamArray>(array: &mut C, buffer: &mut [u8]) -> u32
     let mut marred = 0u32;
     for number in 0..size.words {
         let answers = visit_word(array, WordIndex { number });
+        // by places and no `chunks_mut`, since a word past the buffer's end is visited all the same
         let start = (number as usize * width).min(buffer.len());
         let end = (start + width).min(buffer.len());
         write_row(&mut buffer[start..end], &answers);

@@ -53,7 +53,8 @@ impl RunState {
         self.advance_in(&elements(), array)
     }
 
-    // The same, with the table of MLT-1 handed on, so that it is not built anew for each step.
+    // The same, with the table of MLT-1 handed on, so that it is not built anew for each step. A plain array: a struct that
+    // says which table it is would be opened in each function that has it.
     fn advance_in<C: CamArray>(&mut self, table: &[Element; 7], array: &mut C) -> bool
         requires table_of_mlt1 { map meant table.now ≡ mlt1 }
         ensures unless_at_end { result ≡ nat_lt 0 (length (left (C.build array.old).words (C.build array.old).width self.old)) }

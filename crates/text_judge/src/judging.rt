@@ -35,6 +35,7 @@ pub fn judge_text(
         });
     }
     let array = read_array(text, records)?;
+    // written out: a method that maps what comes back would have the closure's contract in its own
     judge_array(array, chart).map_err(|returned| Returned {
         back: returned.back.into_records(),
         fault: returned.fault,

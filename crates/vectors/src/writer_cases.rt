@@ -56,7 +56,7 @@ impl From<InsideElement> for Sheet {
 // How a call went, and where the sheet stands after it.
 type Called = Result<Sheet, Returned<Sheet>>;
 
-// The same of a call with a state, which is refused with it or granted with the next one.
+// The same of a call with a state, which is refused with it or granted with the next one. Written out, as `judge_text` does.
 fn with_sheets<S: Into<Sheet>, T: Into<Sheet>>(called: Result<T, Returned<S>>) -> Called {
     called.map(|next| next.into()).map_err(|Returned { back, fault }| Returned {
         back: back.into(),
