@@ -7,7 +7,7 @@ use planes::word::WordRecord;
 use std::io::Write;
 
 pub(crate) fn answer_campaign(cases: &mut Cases<'_>) -> anyhow::Result<()> {
-    let test = cases.test()?;
+    let test = cases.test("the sheet of a campaign is refused")?;
     let size = cases.size()?;
     let records = vec![in cases.heap; WordRecord::blank(); cases.header.number()?]?;
     let mut rows = [Row::default(); 15];

@@ -3,7 +3,6 @@ use crate::output::Output;
 use crate::scanner::Scanner;
 use anyhow::{Context, ensure};
 use array_text::array::{RECORDS, read_array};
-use cam::fault::Fault;
 use cam::size::Size;
 use march::test::Test;
 use planes::array::PlaneArray;
@@ -54,16 +53,16 @@ impl<'a> Cases<'a> {
         self.input.take(bytes)
     }
 
-    // The test of a sheet that is never refused.
-    pub(crate) fn test(&mut self) -> anyhow::Result<Test> {
-        read_sheet(self.payload()?).context("the sheet of a case is refused")
+    // The test of a sheet that is never refused; `refusal` says so of one that is.
+    pub(crate) fn test(&mut self, refusal: &'static str) -> anyhow::Result<Test> {
+        read_sheet(self.payload()?).ok().context(refusal)
     }
 
     // The array of a text that is never refused.
     pub(crate) fn array(&mut self) -> anyhow::Result<PlaneArray> {
         let records = vec![in self.heap; WordRecord::blank(); RECORDS]?;
         read_array(self.payload()?, records)
-            .map_err(Fault::from)
+            .ok()
             .context("the array text of a case is refused")
     }
 

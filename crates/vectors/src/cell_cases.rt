@@ -43,13 +43,15 @@ fn put_held<C: CellKind>(cases: &mut Cases<'_>, cells: &[C]) -> anyhow::Result<(
 fn answer_field<C: Described>(cases: &mut Cases<'_>, lines: &[u8]) -> anyhow::Result<()> {
     let mut lines = Scanner::new(lines);
     let size = cases.size()?;
-    let mut cells = cells_of::<C>(cases.heap, &mut lines, cases.header.number()?)?;
+    let count = cases.header.number()?;
+    let marks = cases.header.number::<usize>()?;
+    let mut cells = cells_of::<C>(cases.heap, &mut lines, count)?;
     let mut chart = vec![in cases.heap; 0u8; size.cells() as usize]?;
     let mut field = match CellField::new(cells.as_mut_slice(), size) {
         Ok(field) => field,
         Err(refused) => return put_refused(&mut cases.out, Fault::from(refused)),
     };
-    for _ in 0..cases.header.number::<usize>()? {
+    for _ in 0..marks {
         let number = Scanner::new(lines.line()).number()?;
         put_done(&mut cases.out, field.plant_stuck_mark(WordIndex { number }))?;
     }

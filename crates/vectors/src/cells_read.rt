@@ -33,7 +33,7 @@ impl Described for TableCell {
     fn described(mut words: Scanner<'_>) -> anyhow::Result<TableCell> {
         Ok(TableCell {
             held: words.bit()?,
-            storage: words.choice(&STORAGES)?,
+            storage: words.choice(&STORAGES, "no such storage")?,
             wrong_set: wrong_set_of(words.number()?),
         })
     }
@@ -58,9 +58,9 @@ const TRANSISTORS: [Option<TransistorFault>; 3] = [
 impl Described for TransistorCell {
     fn described(mut words: Scanner<'_>) -> anyhow::Result<TransistorCell> {
         let mut cell = TransistorCell::good(words.bit()?);
-        cell.latch = words.choice(&LATCHES)?;
+        cell.latch = words.choice(&LATCHES, "no such storage of a transistor cell")?;
         for position in POSITIONS {
-            if let Some(fault) = words.choice(&TRANSISTORS)? {
+            if let Some(fault) = words.choice(&TRANSISTORS, "no such state of a transistor")? {
                 cell = cell.with_stuck(position, fault);
             }
         }

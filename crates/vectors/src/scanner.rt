@@ -1,7 +1,7 @@
 // Bytes that are read from front to back.
 use anyhow::Context;
 use std::error::Error;
-use std::str::{FromStr, from_utf8};
+use std::str::from_utf8;
 
 #[derive(Clone, Copy)]
 pub struct Scanner<'a> {
@@ -47,21 +47,29 @@ impl<'a> Scanner<'a> {
     }
 
     // The next word as a number.
-    pub(crate) fn number<N: FromStr>(&mut self) -> anyhow::Result<N>
+    pub(crate) fn number<N: TryFrom<u64>>(&mut self) -> anyhow::Result<N>
     where
-        N::Err: Error,
+        N::Error: Error,
     {
-        Ok(from_utf8(self.word())?.parse::<N>()?)
+        let number = from_utf8(self.word())?.parse::<u64>()?;
+        Ok(N::try_from(number)?)
     }
 
-    // The value that the next word numbers, counted from 0.
-    pub(crate) fn choice<T: Copy>(&mut self, values: &[T]) -> anyhow::Result<T> {
-        let number = self.number::<usize>()?;
-        values.get(number).copied().context("a number of no choice")
+    // The value that the next word numbers, which is one digit and counts from 0; `refusal` says of what there is none.
+    pub(crate) fn choice<T: Copy>(
+        &mut self,
+        values: &[T],
+        refusal: &'static str,
+    ) -> anyhow::Result<T> {
+        let found = match self.word() {
+            [digit @ b'0'..=b'9'] => values.get((*digit - b'0') as usize),
+            _ => None,
+        };
+        found.copied().context(refusal)
     }
 
     // The next word as a bit.
     pub(crate) fn bit(&mut self) -> anyhow::Result<bool> {
-        self.choice(&[false, true])
+        self.choice(&[false, true], "a bit is 0 or 1")
     }
 }

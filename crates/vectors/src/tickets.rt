@@ -2,7 +2,6 @@
 use anyhow::Context;
 use bench::bench::Bench;
 use bench::books::Ticket;
-use cam::fault::Fault;
 use cam::size::Size;
 use planes::array::PlaneArray;
 use planes::word::WordRecord;
@@ -19,7 +18,7 @@ impl TicketOffice {
     pub(crate) fn open(heap: Global) -> anyhow::Result<TicketOffice> {
         let records = vec![in heap; WordRecord::blank(); 1]?;
         let array = PlaneArray::new(records, ONE_CELL)
-            .map_err(Fault::from)
+            .ok()
             .context("no bench for tickets")?;
         Ok(TicketOffice {
             bench: Bench::new(array),
@@ -39,7 +38,7 @@ impl TicketOffice {
         for _ in 1..number {
             office.spend_number();
         }
-        let ticket = office.bench.start().context("no ticket")?;
+        let ticket = office.bench.start().ok().context("no ticket")?;
         Ok((office, ticket))
     }
 

@@ -8,7 +8,7 @@ use trials::trial::trial;
 const FILL: u8 = 2;
 
 pub(crate) fn answer_trial(cases: &mut Cases<'_>) -> anyhow::Result<()> {
-    let test = cases.test()?;
+    let test = cases.test("the sheet of a trial is refused")?;
     let mut array = cases.array()?;
     let mut outcomes = cases.buffer(FILL)?;
     for _ in 0..cases.header.number::<u16>()? {
@@ -22,7 +22,8 @@ pub(crate) fn answer_trial(cases: &mut Cases<'_>) -> anyhow::Result<()> {
         }
         // the outcomes as digits
         for outcome in outcomes.as_slice() {
-            write!(cases.out, "{outcome}")?;
+            let digit = b'0' + (*outcome).min(9);
+            cases.out.write_all(&[digit])?;
         }
         cases.out.write_all(b"\n")?;
     }
