@@ -1,21 +1,22 @@
 -- Operations on a field's cells and marks, as the model sees them.
-use Rattle.std.proofs.Common.{◌≡◌, ℕ, ◌+◌, ◌-◌, ◌*◌, ◌<◌, ◌≤◌, Bool, true, false, cond, not, ◌&&◌, ◌||◌, eqb, ltb, List, [], map, length, get_or, set, replicate, take, sym, refl, ap, ◌∙◌, ap₂, arith}
+use Rattle.std.proofs.Common.{◌≡◌, ℕ, ◌+◌, ◌-◌, ◌*◌, ◌<◌, ◌≤◌, min, Bool, true, false, cond, not, ◌&&◌, ◌||◌, eqb, ltb, List, [], map, length, get_or, set, replicate, take, sym, refl, ap, ◌∙◌, ap₂, arith}
 use borrow.Rule.Slice.PartMut.{put_mid}
 use Rattle.std.specs.List.{between}
 use Rattle.std.proofs.lemmas.List.{get_or-take, length-take, get_or-set_same, get_or-set_other, get_or-replicate, get_or_past, length-replicate}
 use Rattle.std.proofs.lemmas.List.Edits.{length-between}
 use Rattle.std.proofs.lemmas.Bool.{eqb-true, eqb-false, lt-ltb, ltb-true, ltb-false, cond-true, cond-false, and_from, and_left, and_right, and_parts}
 use Rattle.cam.specs.Bits.{bit}
-use Rattle.cam.specs.Model.{written, written_bit, put, mark_after_write, one_more, read_word, hit, value, any_below, agrees}
+use Rattle.cam.specs.Model.{written, written_bit, put, mark_after_write, one_more, tally_cap, read_word, hit, value, any_below, agrees}
+use Rattle.cam.specs.Defects.{with_stuck_mark, unmarked}
 use Rattle.cam.proofs.Below.{split, any_same, all_same}
 use Rattle.cam.proofs.Outside.{tally_more}
 use Rattle.cam.proofs.Values.{value_same}
 use Rattle.cells.specs.Meaning.{CellMeaning, taken}
 use Rattle.cam.specs.declared.mark.Mark.{Mark}
-use Rattle.cam.specs.declared.mark.Mark.TheVariants.{Clear}
+use Rattle.cam.specs.declared.mark.Mark.TheVariants.{Clear, Stuck}
 use Rattle.cam.specs.Mark.{is_set, is_stuck}
 use Rattle.cell_field.specs.Row.{blank_cell, at, wrote_cell, row_matches}
-use Rattle.cell_field.specs.Field.{cell_at, mark_at, build_from, state_from}
+use Rattle.cell_field.specs.Field.{fits as size_fits, used_words, used_bits, cell_at, mark_at, build_from, state_from}
 use Rattle.cell_field.proofs.Places.{cell_between, put_before, put_inside, put_after, row_within}
 
 module _ (n w : ℕ) where
@@ -180,6 +181,46 @@ module _ {X : Type 0} (f : X → CellMeaning) (n w a p m : ℕ) (xs ys : List X)
         wrong = λ k j. wrong_after f n w a p m xs ys inside room long wrote k j d;
         stuck = λ k. marks_stay n a marks mark inside place is_stuck stuck_stays k d;
       }
+
+-- the mark of word a becomes stuck
+module _ (n w a : ℕ) (ms : List CellMeaning) (marks : List Mark) (inside : a < n) (place : a < length marks) where
+  stuck_or : (k : ℕ) (u : Bool) → cond (eqb k a && ltb k n) true u ≡ (eqb k a || u)
+  stuck_or k u =
+      split (eqb k a)
+      (λ q. let e = eqb-true k a q in
+      let h : k < n = omega arith in
+      cond-true (eqb k a && ltb k n) true u (and_from _ _ q (lt-ltb k _ h)) ∙ ap (λ b. b || u) (sym q))
+      (λ q. cond-false (eqb k a && ltb k n) true u (and_left (eqb k a) _ q) ∙ ap (λ b. b || u) (sym q))
+
+  clear_and : (k : ℕ) (u : Bool) → cond (eqb k a && ltb k n) false u ≡ (not (eqb k a) && u)
+  clear_and k u =
+      split (eqb k a)
+      (λ q. let e = eqb-true k a q in
+      let h : k < n = omega arith in
+      cond-true (eqb k a && ltb k n) false u (and_from _ _ q (lt-ltb k _ h)) ∙ ap (λ b. not b && u) (sym q))
+      (λ q. cond-false (eqb k a && ltb k n) false u (and_left (eqb k a) _ q) ∙ ap (λ b. not b && u) (sym q))
+
+  pub plant_build : build_from n w ms (set marks a Stuck) ≡ with_stuck_mark a (build_from n w ms marks)
+  plant_build = λ d.
+      record {
+        words = n;
+        width = w;
+        storage = λ k j. (cell_at n w ms k j).storage;
+        wrong = λ k j. (cell_at n w ms k j).wrong;
+        stuck = λ k. (marks_after n a marks Stuck inside place is_stuck (λ y. true) refl k ∙ stuck_or k _) d;
+      }
+
+  pub plant_state : (t : ℕ) → state_from n w ms (set marks a Stuck) t ≡ unmarked a (state_from n w ms marks t)
+  plant_state t = λ d.
+      record {
+        held = λ k j. (cell_at n w ms k j).held;
+        mark = λ k. (marks_after n a marks Stuck inside place is_set (λ y. false) refl k ∙ clear_and k _) d;
+        tally = min t tally_cap;
+      }
+
+-- a size that fits its cells is used whole
+pub used_whole : (N W l : ℕ) → size_fits N W l ≡ true → (used_words N W l ≡ N) × (used_bits N W l ≡ W)
+used_whole N W l e = (cond-true (size_fits N W l) N 0 e, cond-true (size_fits N W l) W 1 e)
 
 -- a new field: every mark is clear
 clear_at : (n k : ℕ) → mark_at n (replicate 256 Clear) k ≡ mark_at n [] k

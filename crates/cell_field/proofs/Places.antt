@@ -2,7 +2,7 @@
 use Rattle.std.proofs.Common.{◌≡◌, ℕ, suc, ◌+◌, ◌-◌, ◌*◌, ◌%◌, ◌^◌, ◌<◌, ◌≤◌, Bool, cond, eqb, ltb, ap₂, List, ◌++◌, map, length, get_or, set, take, drop, sym, ap, ◌∙◌, mul-le-mul_right, add-mul, pow-suc, arith, pow_mono}
 use Rattle.std.specs.List.{between}
 use borrow.Rule.Slice.PartMut.{put_mid}
-use Rattle.std.proofs.lemmas.List.{get_or-append-add, get_or-take, get_or-drop, drop-drop, length-take, get_or-map, map-set, map-append, take-map, drop-map, get_or-set_same, get_or-set_other, length-map}
+use Rattle.std.proofs.lemmas.List.{get_or-append-add, get_or-take, get_or-drop, drop-drop, length-append, length-take, length-drop, get_or-map, map-set, map-append, take-map, drop-map, get_or-set_same, get_or-set_other, length-map}
 use Rattle.std.proofs.Math.ListN.{get_or-append}
 use Rattle.std.proofs.lemmas.List.Edits.{get_or-between}
 use Rattle.std.proofs.lemmas.Bool.{cond-true, cond-false, eqb-true, eqb-false, ltb-true, ltb-false, lt-ltb, le-ltb}
@@ -98,3 +98,8 @@ module _ {X : Type 0} (f : X → CellMeaning) (xs ys : List X) (s e : ℕ) (long
       ∙ get_or-append-add (map f ys) _ k blank_cell
       ∙ ap (λ zs. at zs k) (drop-drop (e - s) s (map f xs))
       ∙ get_or-drop (s + (e - s)) (map f xs) k blank_cell ∙ ap (at (map f xs)) r
+
+-- cells in the place of others are as many
+pub put_long : {X : Type 0} (s k : ℕ) (xs ys : List X) → length ys ≡ k → s + k ≤ length xs → length (put_mid s k xs ys) ≡ length xs
+put_long s k xs ys e l =
+    omega (arith, length-append (take s xs) (ys ++ drop k (drop s xs)), length-append ys (drop k (drop s xs)), length-take s xs, length-drop s xs, length-drop k (drop s xs), e)

@@ -1,12 +1,31 @@
 -- What a field of cells means: ms are the meanings of the caller's cells, cell (k, j) at k × W + j.
-use Rattle.std.specs.Prelude.{ℕ, ◌+◌, ◌*◌, min, cond, ◌&&◌, List, map, nat_lt, slice_index_or}
+use Rattle.std.specs.Prelude.{ℕ, ◌+◌, ◌*◌, min, Bool, cond, ◌&&◌, List, map, length, nat_le, nat_lt, slice_index_or}
 use Rattle.cam.specs.Model.{Build, State, tally_cap}
 use Rattle.cells.specs.Meaning.{CellMeaning}
 use Rattle.cell_field.specs.declared.field.CellField.{CellField}
+use Rattle.cam.specs.declared.size.Size.{Size}
 use Rattle.cam.specs.declared.mark.Mark.{Mark}
 use Rattle.cam.specs.declared.mark.Mark.TheVariants.{Clear}
 use Rattle.cam.specs.Mark.{is_set, is_stuck}
 use Rattle.cell_field.specs.Row.{blank_cell, at}
+
+-- Whether an array of N words of W bits fits l cells. A field whose sizes do not fit its cells, which no call makes,
+-- means an array of no words of one bit.
+abbrev pub fits : ℕ → ℕ → ℕ → Bool
+fits N W l = nat_le N 256 && ((nat_le 1 W && nat_le W 64) && nat_le (N * W) l)
+
+abbrev pub used_words : ℕ → ℕ → ℕ → ℕ
+used_words N W l = cond (fits N W l) N 0
+
+abbrev pub used_bits : ℕ → ℕ → ℕ → ℕ
+used_bits N W l = cond (fits N W l) W 1
+
+abbrev pub used : {X : Type 0} → CellField X → Size
+used d =
+    record {
+      words = used_words d.size.words d.size.width (length d.cells.now);
+      width = used_bits d.size.words d.size.width (length d.cells.now);
+    }
 
 -- cell (k, j) of an array of n words of w bits
 abbrev pub cell_at : ℕ → ℕ → List CellMeaning → ℕ → ℕ → CellMeaning
@@ -35,7 +54,7 @@ state_from n w ms marks t =
 
 -- of a field of cells X: f says what each means
 abbrev pub field_build : {X : Type 0} → (X → CellMeaning) → CellField X → Build
-field_build f d = build_from d.size.words d.size.width (map f d.cells.now) d.marks
+field_build f d = build_from (used d).words (used d).width (map f d.cells.now) d.marks
 
 abbrev pub field_state : {X : Type 0} → (X → CellMeaning) → CellField X → State
-field_state f d = state_from d.size.words d.size.width (map f d.cells.now) d.marks d.tally
+field_state f d = state_from (used d).words (used d).width (map f d.cells.now) d.marks d.tally

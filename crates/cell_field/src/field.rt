@@ -11,23 +11,19 @@ use cam::size::{LARGEST, Size};
 use cells::kind::CellKind;
 
 // An array over lent cells: cell (a, j) stands at a × width + j. The marks and the tally are its own, room for the marks
-// of the largest array included, since the caller hands over cells alone and a library allocates nothing. The limits of
-// its size stand in it as in a plane array: a type for them would be opened at each use.
+// of the largest array included, since the caller hands over cells alone and a library allocates nothing. That the size is
+// within the limits and the cells suffice for it is no ghost field, though `new` asks for it: of a struct that has one and
+// holds lent cells the borrow checker does not cover a caller that is given a field and puts it on a bench.
 #[derive(Drop)]
 pub struct CellField<'a, C> {
     pub(crate) cells: &'a mut [C],
     pub(crate) size: Size,
     pub(crate) marks: [Mark; 256],
     pub(crate) tally: u64,
-    ghost few_words: { size.words ≤ 256 },
-    ghost some_bits: { 1 ≤ size.width },
-    ghost few_bits: { size.width ≤ 64 },
-    ghost cell_for_each_bit: { size.words * size.width ≤ length cells.now },
-    ghost tally_within: { tally ≤ tally_cap },
 }
 
 impl<'a, C: CellKind> CellField<'a, C> {
-    ghost use Rattle.cell_field.specs.Field.{field_build, field_state, build_from, state_from};
+    ghost use Rattle.cell_field.specs.Field.{used, field_build, field_state, build_from, state_from};
 
     // Makes an array of this size over the caller's cells as they are, marks clear. It asks for 1 to 256 words of 1 to
     // 64 bits (41), then for a cell for each bit (57). Cells past the last word are left alone.
@@ -52,6 +48,25 @@ impl<'a, C: CellKind> CellField<'a, C> {
         })
     }
 
+    // The size that the array has: its own, and no words of one bit where the cells would not suffice, which no call makes.
+    pub(crate) fn used(&self) -> Size
+        ensures used_size { result ≡ used self.now }
+        ensures few_words { result.words ≤ 256 }
+        ensures some_bits { 1 ≤ result.width }
+        ensures few_bits { result.width ≤ 64 }
+        ensures cell_for_each_bit { result.words * result.width ≤ length self.now.cells.now }
+    {
+        let size = self.size;
+        if size.words <= LARGEST.words
+            && (1..=LARGEST.width).contains(&size.width)
+            && size.cells() as usize <= self.cells.len()
+        {
+            size
+        } else {
+            Size { words: 0, width: 1 }
+        }
+    }
+
     // Makes the mark of a word stuck, and so clear. It asks whether the word is inside the array (42), then whether its
     // mark is not stuck yet (43); a refused call leaves cells and marks as they are.
     pub fn plant_stuck_mark(&mut self, word: WordIndex) -> Result<(), Fault>
@@ -62,7 +77,7 @@ impl<'a, C: CellKind> CellField<'a, C> {
         ensures only_this_mark_planted { MatchResult result (λ _. field_build C.meaning self.new ≡ with_stuck_mark word.number (field_build C.meaning self.old)) (λ _. self.new.marks ≡ self.old.marks) }
         ensures only_this_mark_cleared { MatchResult result (λ _. field_state C.meaning self.new ≡ unmarked word.number (field_state C.meaning self.old)) (λ _. self.new.marks ≡ self.old.marks) }
     {
-        if word.number >= self.size.words {
+        if word.number >= self.used().words {
             return Err(Fault::of_call(Reason::OutsideArray));
         }
         let place = word.number as usize;

@@ -9,7 +9,7 @@ use crate::rows::{read_row, row_matches, write_row};
 use cam::array::CamArray;
 use cam::index::WordIndex;
 use cam::mark::Mark;
-use cam::tally::one_more;
+use cam::tally::{TALLY_CAP, one_more};
 use cells::kind::CellKind;
 
 impl<C: CellKind> CellField<'_, C> {
@@ -18,8 +18,9 @@ impl<C: CellKind> CellField<'_, C> {
     fn bits_of(&self, word: WordIndex) -> u64
         ensures held_bits { result ≡ read_word (field_build C.meaning self.now) word.number (field_state C.meaning self.now) }
     {
-        let width = self.size.width as usize;
-        if word.number < self.size.words {
+        let size = self.used();
+        let width = size.width as usize;
+        if word.number < size.words {
             let start = word.number as usize * width;
             read_row(&self.cells[start..start + width])
         } else {
@@ -27,19 +28,21 @@ impl<C: CellKind> CellField<'_, C> {
         }
     }
 
-    // Whether some marked word matches.
+    // Whether some marked word matches. A loop over the marks, since in a chart hardly a word is marked: a chain of rows and
+    // marks, which makes the row of each word first, takes half as long again.
     fn hits(&self, pattern: u64, mask: u64) -> bool
         ensures some_word_matches { result ≡ hit (field_build C.meaning self.now) pattern mask (field_state C.meaning self.now) }
     {
-        let words = self.size.words as usize;
-        self.cells
-            .chunks_exact(self.size.width as usize)
-            .zip(&self.marks[..words])
-            .any(
-                |(row, mark)| -> bool
-                    requires few_bits { length row.now ≤ 64 }
-                { *mark == Mark::Set && row_matches(row, pattern, mask) },
-            )
+        let size = self.used();
+        let width = size.width as usize;
+        let words = size.words as usize;
+        for (word, mark) in self.marks[..words].iter().enumerate() {
+            let start = word * width;
+            if *mark == Mark::Set && row_matches(&self.cells[start..start + width], pattern, mask) {
+                return true;
+            }
+        }
+        false
     }
 }
 
@@ -51,24 +54,25 @@ impl<C: CellKind> CamArray for CellField<'_, C> {
     ghost formed = { field_formed C.meaning C.steady };
 
     fn words(&self) -> u16 {
-        self.size.words
+        self.used().words
     }
 
     fn width(&self) -> u8 {
-        self.size.width
+        self.used().width
     }
 
     fn tally(&self) -> u64 {
-        self.tally
+        self.tally.min(TALLY_CAP)
     }
 
     fn write(&mut self, word: WordIndex, pattern: u64, mask: u64) {
         self.tally = one_more(self.tally);
-        if word.number >= self.size.words {
+        let size = self.used();
+        if word.number >= size.words {
             return;
         }
         let place = word.number as usize;
-        let width = self.size.width as usize;
+        let width = size.width as usize;
         let start = place * width;
         write_row(&mut self.cells[start..start + width], pattern, mask);
         self.marks[place] = self.marks[place].written();
@@ -86,7 +90,7 @@ impl<C: CellKind> CamArray for CellField<'_, C> {
 
     fn erase(&mut self, word: WordIndex) {
         self.tally = one_more(self.tally);
-        if word.number >= self.size.words {
+        if word.number >= self.used().words {
             return;
         }
         let place = word.number as usize;
