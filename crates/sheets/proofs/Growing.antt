@@ -1,7 +1,7 @@
 -- An element that grows in the test as its operations are read. Assumes nothing.
-use Rattle.std.proofs.Common.{◌≡◌, ℕ, ◌-◌, ◌<◌, true, ltb, List, [], ◌∷◌, ◌++◌, map, length, Some, None, Option, MatchOption, slice_get, Ok, Result, Bor, sym, refl, ap, ◌∙◌, subst, arith}
+use Rattle.std.proofs.Common.{◌≡◌, ℕ, ◌+◌, ◌<◌, true, ltb, List, [], ◌∷◌, ◌++◌, length, Ok, Result, sym, refl, ap, ◌∙◌, subst, arith, length-append}
+use lib.ListN.{length-map}
 use Rattle.std.proofs.lemmas.Bool.Decides.{nat_tests}
-use Rattle.std.specs.Option.{option_copied}
 use Rattle.cam.specs.declared.fault.Fault.{Fault}
 use Rattle.cam.specs.Refusals.{first_no, Refused}
 use Rattle.cam.proofs.Asking.{refused_not_0, both_yes}
@@ -9,8 +9,7 @@ use Rattle.march.specs.declared.element.TestOperation.{TestOperation}
 use Rattle.march.specs.declared.element.TestOperation.TheVariants as operation
 use Rattle.march.specs.declared.operations.Order.{Order}
 use Rattle.march.specs.declared.operations.Order.TheVariants.{Columns}
-use Rattle.march.specs.declared.element.Element.{Element as ElementRecord}
-use Rattle.march.specs.Tests.{Element, up, down, columns, meant}
+use Rattle.march.specs.Tests.{Element, up, down, columns}
 use Rattle.march.specs.Building.{order_of, operations_of, is_compare, allows, longer, last_longer, operation_questions}
 use Rattle.march.proofs.Table.{longer_at_end, questions_at_end}
 use Rattle.words.specs.Readings.{on, Gathered}
@@ -19,7 +18,6 @@ use Rattle.sheet_operations.specs.declared.letter.Letter.{Letter}
 use Rattle.sheet_operations.specs.declared.letter.Letter.TheVariants as letter
 use Rattle.sheet_operations.specs.Questions.{allowed, room}
 use Rattle.sheet_operations.specs.Operations.{Rest, OperationAt}
-use Rattle.sheets.specs.Elements.{last_count}
 
 pub longer_order : (e : Element) (o : TestOperation) → order_of (longer e o) ≡ order_of e
 longer_order (up os) o = refl
@@ -28,6 +26,15 @@ longer_order (columns cs) (operation.Write b) = refl
 longer_order (columns cs) (operation.Read b) = refl
 longer_order (columns cs) (operation.Compare c) = refl
 longer_order (columns cs) operation.Erase = refl
+
+longer_count : (e : Element) (o : TestOperation) → allows e o ≡ true → length (operations_of (longer e o)) ≡ length (operations_of e) + 1
+longer_count (up os) o a = length-append os (o ∷ [])
+longer_count (down os) o a = length-append os (o ∷ [])
+longer_count (columns cs) (operation.Write b) a = absurd (cc)
+longer_count (columns cs) (operation.Read b) a = absurd (cc)
+longer_count (columns cs) (operation.Compare c) a =
+    length-map (cs ++ (c ∷ [])) operation.Compare ∙ length-append cs (c ∷ []) ∙ ap (λ n. n + 1) (sym (length-map cs operation.Compare))
+longer_count (columns cs) operation.Erase a = absurd (cc)
 
 -- the letter c gives a compare
 rest_compares : (text : List ℕ) (l : Letter) (a : ℕ) (p : Gathered TestOperation) → Rest text l a (Ok p) → l ≡ letter.Compare → is_compare p.value ≡ true
@@ -45,7 +52,7 @@ read_allows (up os) count text q a p x = refl
 read_allows (down os) count text q a p x = refl
 read_allows (columns cs) count text q a p x = columns_compare Columns count text q a p x refl
 
-read_room : (o : Order) (count : ℕ) (text : List ℕ) (q a : ℕ) (p : Gathered TestOperation) → OperationAt o count text q a (Ok p) → count < 8
+pub read_room : (o : Order) (count : ℕ) (text : List ℕ) (q a : ℕ) (p : Gathered TestOperation) → OperationAt o count text q a (Ok p) → count < 8
 read_room o count text q a p (on (room h) _) = h
 
 -- the last element of a test while it is read: it has `count` operations so far
@@ -53,6 +60,10 @@ module _ {text : List ℕ} (e : Element) {o : Order} {count : ℕ} (ordered : or
   -- an operation of the element, or a fault
   pub at_element : {q a : ℕ} {r : Result (Gathered TestOperation) Fault} → OperationAt o count text q a r → OperationAt (order_of e) (length (operations_of e)) text q a r
   at_element {q} {a} {r} x = subst (λ o. OperationAt o (length (operations_of e)) text q a r) (sym ordered) (subst (λ n. OperationAt o n text q a r) counted x)
+
+  -- which then has one more
+  pub longer_counted : {q a : ℕ} (p : Gathered TestOperation) → OperationAt o count text q a (Ok p) → count + 1 ≡ length (operations_of (longer e p.value))
+  longer_counted {q} {a} p x = omega (arith, counted, longer_count e p.value (read_allows e _ text q a p (at_element x)))
 
   -- the test takes every operation that was read
   pub taken : {q a : ℕ} {all : List Element} (es : List Element) (p : Gathered TestOperation) (f : Fault) → all ≡ es ++ (e ∷ []) → OperationAt o count text q a (Ok p) → Refused (first_no (operation_questions all p.value)) f → ⊥
@@ -66,30 +77,3 @@ module _ {text : List ℕ} (e : Element) {o : Order} {count : ℕ} (ordered : or
 -- and its last element alone gets longer
 pub longer_ending : {all new : List Element} (es : List Element) (e : Element) (o : TestOperation) → all ≡ es ++ (e ∷ []) → new ≡ last_longer all o → new ≡ es ++ (longer e o ∷ [])
 longer_ending es e o ending is = is ∙ ap (λ l. last_longer l o) ending ∙ longer_at_end es e o
-
--- how many operations an element at the end has
-pub count_at_end : {all : List Element} (es : List Element) (e : Element) → all ≡ es ++ (e ∷ []) → last_count all ≡ length (operations_of e)
-count_at_end es e ending = ap last_count ending ∙ at_end es
-  where
-    at_end : (es : List Element) → last_count (es ++ (e ∷ [])) ≡ length (operations_of e)
-    at_end [] = refl
-    at_end (x ∷ []) = refl
-    at_end (x ∷ y ∷ es) = at_end (y ∷ es)
-
--- what is counted of the last record of a table, or of none
-abbrev Counted : ℕ → Option ElementRecord → Type 0
-Counted n last = MatchOption last (n ≡ 0) (λ x. n ≡ length (operations_of (meant x)))
-
-counted_last : (x : ElementRecord) (xs : List ElementRecord) (n : ℕ) → Counted n (slice_get (x ∷ xs) (length xs)) → n ≡ last_count (map meant (x ∷ xs))
-counted_last x [] n h = h
-counted_last x (y ∷ xs) n h = counted_last y xs n h
-
-counted_copy : (last : Option (Bor ElementRecord)) (n : ℕ) → MatchOption last (n ≡ 0) (λ x. n ≡ length (operations_of (meant x.now))) → Counted n (option_copied last)
-counted_copy None n h = h
-counted_copy (Some x) n h = h
-
-pub last_counted : (xs : List ElementRecord) (last : Option (Bor ElementRecord)) (n : ℕ) → option_copied last ≡ slice_get xs (length xs - 1) → MatchOption last (n ≡ 0) (λ x. n ≡ length (operations_of (meant x.now))) → n ≡ last_count (map meant xs)
-last_counted [] last n is h = rw is at (counted_copy last n h)
-last_counted (x ∷ xs) last n is h =
-    let same : length (x ∷ xs) - 1 ≡ length xs = omega arith in
-    counted_last x xs n (rw (is, same) at (counted_copy last n h))

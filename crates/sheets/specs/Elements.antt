@@ -30,9 +30,3 @@ ElementAt o es p text a =
     Then (ElementRoom (length es) p) (λ _.
     Then (Inside text (opened o) a)
     (λ g r. r ≡ Ok (gathered (es ++ (g.value ∷ [])) g.to)))
-
--- how many operations the last element has, and 0 where there is none
-abbrev pub last_count : List Element → ℕ
-last_count [] = 0
-last_count (e ∷ []) = length (operations_of e)
-last_count (e ∷ f ∷ es) = last_count (f ∷ es)

@@ -3,10 +3,9 @@ ghost use Rattle.std.specs.Prelude.{◌≡◌};
 ghost use Rattle.march.specs.Table.{elements_of, name_of};
 ghost use Rattle.words.specs.Going.{GoesOn};
 ghost use Rattle.words.specs.Readings.{Reading, reached, leaving};
-ghost use Rattle.sheets.specs.Elements.{ElementAt, last_count};
+ghost use Rattle.sheets.specs.Elements.{ElementAt};
 
 use cam::fault::{Fault, Reason};
-use march::element::Element;
 use march::operations::Order;
 use march::test::Test;
 use sheet_operations::operation::read_operation;
@@ -16,13 +15,6 @@ use words::form::not_wanted;
 use words::token::Kind;
 
 const MOST_ELEMENTS: u8 = 16;
-
-// How many operations the last element of a test has, and 0 where it has no element.
-fn last_operation_count(test: &Test) -> u8
-    ensures operations_of_the_last { result ≡ last_count (elements_of test.now) }
-{
-    test.elements().last().map_or(0, Element::operation_count)
-}
 
 // Reads an element, of which the bracket at this place and the word of its order were read, up to its closing bracket.
 // It becomes the last element of the test, and each of its operations goes to it through the test.
@@ -44,14 +36,16 @@ pub(crate) fn read_element(
         bracket,
     )?;
     test.add_element(order)?;
+    // counted here, since it costs less than to ask the test for its last element at each token
+    let mut count = 0u8;
     loop {
         let token = cursor.next_token()?;
-        let count = last_operation_count(test);
         match token.kind {
             Kind::Close if count > 0 => return Ok(()),
             Kind::Open => {
                 let operation = read_operation(cursor, token.from, order, count)?;
                 test.add_operation(operation)?;
+                count += 1;
             }
             _ => return Err(not_wanted(token.from)),
         }

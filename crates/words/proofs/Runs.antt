@@ -1,13 +1,12 @@
--- The spaces and the letters that come next, as the code counts them. Assumes nothing.
-use Rattle.std.proofs.Common.{◌≡◌, ℕ, ◌+◌, ◌-◌, ◌<◌, ◌≤◌, Bool, true, false, List, length, get_or, drop, Ok, Err, sym, ap, subst, ⊎_elim, ◌∙◌, arith, length-drop, ◌==◌}
+-- The letters that come next, as the code counts them. Assumes nothing.
+use Rattle.std.proofs.Common.{◌≡◌, ℕ, ◌+◌, ◌-◌, ◌<◌, ◌≤◌, Bool, true, false, List, length, get_or, drop, Ok, Err, sym, ap, subst, ⊎_elim, ◌∙◌, arith, length-drop}
 use Rattle.std.proofs.lemmas.List.{get_or-drop, get_or_past}
 use Rattle.std.proofs.str.Laws.{order}
-use Rattle.std.proofs.lemmas.Bool.Decides.{nat_tests}
 use Rattle.std.specs.List.{prefix_len}
 use Rattle.std.proofs.lemmas.List.Sums.{prefix_len-le-length, prefix_len_passes, prefix_len_stops}
 use Rattle.march.specs.Letters.{is_letter_or_digit}
 use Rattle.words.specs.declared.token.Kind.TheVariants.{Word}
-use Rattle.words.specs.Lexing.{Skips, Runs, WordAt, word, too_long, stray, token, word_too_long, byte_not_allowed}
+use Rattle.words.specs.Lexing.{Runs, WordAt, word, too_long, stray, token, word_too_long, byte_not_allowed}
 
 -- the bytes from a on that pass, by place
 module _ (p : ℕ → Bool) (text : List ℕ) (a : ℕ) where
@@ -22,20 +21,6 @@ module _ (p : ℕ → Bool) (text : List ℕ) (a : ℕ) where
 
   pub stop : a ≤ length text → a + prefix_len p (drop a text) < length text → p (get_or text (a + prefix_len p (drop a text)) 0) ≡ false
   stop h lt = ap p (sym (get_or-drop a text (prefix_len p (drop a text)) 0)) ∙ prefix_len_stops p (drop a text) 0 (omega (arith, length-drop a text))
-
-abbrev pub is_space : ℕ → Bool
-is_space b = b == 32
-
-pub skips : (text : List ℕ) (a : ℕ) → a ≤ length text → Skips text a (a + prefix_len is_space (drop a text))
-skips text a h = record {
-  from = omega arith;
-  within = within is_space text a h;
-  blank = λ k lo hi. let e = pass is_space text a k lo hi in grind (arith, nat_tests);
-  stops = λ lt is. let e = stop is_space text a h lt in grind (arith, nat_tests);
-}
-
-pub skips_by : (text rest : List ℕ) (a n : ℕ) → a ≤ length text → rest ≡ drop a text → n ≡ prefix_len is_space rest → Skips text a (a + n)
-skips_by text rest a n h r e = subst (λ k. Skips text a (a + k)) (sym (e ∙ ap (prefix_len is_space) r)) (skips text a h)
 
 pub runs : (text : List ℕ) (a : ℕ) → a ≤ length text → Runs text a (a + prefix_len is_letter_or_digit (drop a text))
 runs text a h = record {

@@ -83,7 +83,8 @@ impl<'a> Cursor<'a> {
         T::spelled(word.bytes).ok_or(not_wanted(word.from))
     }
 
-    // Reads which of two words comes next.
+    // Reads which of two words comes next. Inlined, so that a call compares with its own words and their lengths.
+    #[inline(always)]
     pub fn either_word(&mut self, no: &[u8], yes: &[u8]) -> Result<bool, Fault>
         ensures reading { Reading (EitherNext no.now yes.now self.old.text.now self.old.at) (come_to self.new.at result) }
         ensures goes_on { GoesOn self.old self.new }
