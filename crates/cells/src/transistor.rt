@@ -45,7 +45,11 @@ impl Leg {
     fn pulls(self, stored: bool, sought: bool) -> bool
         ensures both_conduct { result ≡ pulls self stored sought }
     {
-        conducts(self.storage, stored) && conducts(self.search, sought)
+        // a leg without a fault, as hardly one has any, goes first: to ask each transistor takes half as long again
+        match (self.storage, self.search) {
+            (None, None) => stored && sought,
+            (storage, search) => conducts(storage, stored) && conducts(search, sought),
+        }
     }
 }
 

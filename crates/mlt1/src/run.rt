@@ -76,6 +76,10 @@ impl RunState {
         ensures next_steps_done { Went (C.build array.old) result self.old self.new (C.state array.old) (C.state array.new) }
         ensures build_stays { C.build array.new ≡ C.build array.old }
     {
+        // no table where nothing is asked for
+        if most == 0 {
+            return 0;
+        }
         let table = elements();
         // a loop and no chain, since each step changes the array
         for done in 0..most {

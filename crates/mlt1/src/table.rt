@@ -39,19 +39,42 @@ const C1_NONE: Comparison = Comparison {
     bit: true,
     hit: false,
 };
+// fills the places of a list past its count
+const E: TestOperation = TestOperation::Erase;
 
 // The elements of MLT-1 in their order.
 pub fn elements() -> [Element; 7]
     ensures test_mlt1 { map meant result ≡ mlt1 }
 {
     [
-        Element::Up(Few::of(&[W1])),
-        Element::Up(Few::of(&[W0, C0_HIT, W1])),
-        Element::Up(Few::of(&[R1, W0])),
-        Element::Columns(Few::of(&[C1_NONE])),
-        Element::Down(Few::of(&[W1, C1_HIT, W0])),
-        Element::Down(Few::of(&[R0, W1])),
-        Element::Columns(Few::of(&[C0_NONE])),
+        Element::Up(Few {
+            items: [W1, E, E, E, E, E, E, E],
+            count: 1,
+        }),
+        Element::Up(Few {
+            items: [W0, C0_HIT, W1, E, E, E, E, E],
+            count: 3,
+        }),
+        Element::Up(Few {
+            items: [R1, W0, E, E, E, E, E, E],
+            count: 2,
+        }),
+        Element::Columns(Few {
+            items: [C1_NONE; 8],
+            count: 1,
+        }),
+        Element::Down(Few {
+            items: [W1, C1_HIT, W0, E, E, E, E, E],
+            count: 3,
+        }),
+        Element::Down(Few {
+            items: [R0, W1, E, E, E, E, E, E],
+            count: 2,
+        }),
+        Element::Columns(Few {
+            items: [C0_NONE; 8],
+            count: 1,
+        }),
     ]
 }
 
