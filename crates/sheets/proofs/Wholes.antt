@@ -7,8 +7,6 @@ use Rattle.march.specs.declared.element.TestOperation.{TestOperation}
 use Rattle.march.specs.declared.element.TestOperation.TheVariants as operation
 use Rattle.march.specs.declared.operations.Order.{Order}
 use Rattle.march.specs.declared.operations.Order.TheVariants.{Up, Down, Columns}
-use Rattle.march.specs.declared.test.Test.{Test}
-use Rattle.march.specs.Table.{elements_of}
 use Rattle.march.specs.Every.{every}
 use Rattle.march.specs.Tests as tests
 use Rattle.march.specs.Tests.{up, down, columns}
@@ -22,7 +20,7 @@ use Rattle.sheets.specs.declared.line.LineWord.{LineWord}
 use Rattle.sheets.specs.declared.line.LineWord.TheVariants.{Note, Element}
 use Rattle.sheets.specs.Elements.{Grows, Inside, ElementAt}
 use Rattle.sheets.specs.Lines.{LineBody, LineAt, Lines}
-use Rattle.sheets.specs.Sheets.{SheetText, sheet_of}
+use Rattle.sheets.specs.Sheets.{Sheet, SheetText}
 
 longer_few : (e : tests.Element) (o : TestOperation) → length (operations_of (longer e o)) ≤ length (operations_of e) + 1
 longer_few (up os) o = omega (arith, length-append os (o ∷ []))
@@ -89,6 +87,6 @@ lines_whole : (text : List ℕ) (es : List tests.Element) (a : ℕ) (g : Gathere
 lines_whole text es a _ (shut x k some) good = whole es some good
 lines_whole text es a g (more {t} {y} x k p rest) good = lines_whole text y.value y.to g rest (line_good text es t.from t.to y p good)
 
-pub sheet_whole : {text : List ℕ} (t : Test) → SheetText text (sheet_of (Ok t)) → is_whole (elements_of t) ≡ true
-sheet_whole {text} t (on {x = h} _ (on {x = g} lines (on _ (on _ q)))) =
-    subst (λ s. is_whole s.elements ≡ true) (sym (same_ok _ _ q)) (lines_whole text [] h.to g lines (record { few = omega arith; all = refl }))
+pub sheet_whole : (text : List ℕ) (s : Sheet) → SheetText text (Ok s) → is_whole s.elements ≡ true
+sheet_whole text s (on {x = h} _ (on {x = g} lines (on _ (on _ q)))) =
+    subst (λ s. is_whole s.elements ≡ true) (sym (same_ok s _ q)) (lines_whole text [] h.to g lines (record { few = omega arith; all = refl }))

@@ -115,15 +115,20 @@ checks_words W a (o ∷ os) =
     same (Compare c) = refl
     same Erase = refl
 
-checks_columns : (W j : ℕ) (cs : List Comparison) → check_count (map (on_column W j) cs) ≡ checks_among (map Compare cs)
+checks_columns : (W j : ℕ) (cs : List Comparison) → check_count (map (on_column W j) cs) ≡ length cs
 checks_columns W j [] = refl
-checks_columns W j (c ∷ cs) =
-    omega (arith, checks-cons (on_column W j c) (map (on_column W j) cs), sum_by-cons (λ o. cond (reads_or_compares o) 1 0) (Compare c) (map Compare cs), checks_columns W j cs)
+checks_columns W j (c ∷ cs) = omega (arith, checks-cons (on_column W j c) (map (on_column W j) cs), checks_columns W j cs)
+
+-- each operation of a columns element is a compare, and so a check
+all_compares : (cs : List Comparison) → checks_among (map Compare cs) ≡ length cs
+all_compares [] = refl
+all_compares (c ∷ cs) =
+    omega (arith, sum_by-cons (λ o. cond (reads_or_compares o) 1 0) (Compare c) (map Compare cs), all_compares cs)
 
 checks_visit : (N W : ℕ) (e : Element) (v : ℕ) → check_count (visit N W e v) ≡ checks_of e
 checks_visit N W (up os) v = checks_words W v os
 checks_visit N W (down os) v = checks_words W (N - 1 - v) os
-checks_visit N W (columns cs) v = checks_columns W v cs
+checks_visit N W (columns cs) v = checks_columns W v cs ∙ sym (all_compares cs)
 
 -- the first element's, and the others'
 checks_schedule : (N W : ℕ) (e : Element) (es : List Element) → check_count (schedule N W (e ∷ es)) ≡ checks_of e * visits N W e + check_count (schedule N W es)

@@ -65,4 +65,4 @@ returns c =
     let named = l.name_stays ∙ c.named-test.ensures.its_name in
     let made = ap (λ n. Ok (record { name = n; elements = elements_of c.read_lines.new.test })) named in
     let z = on (on k h) (on b (on e (on g made))) in
-    record { reading = pinned {r = sheet_of (Ok c.read_lines.new.test)} (sheet_one _) z; whole_test = sheet_whole c.read_lines.new.test z }
+    record { reading = pinned {r = sheet_of (Ok c.read_lines.new.test)} (sheet_one _) z; whole_test = sheet_whole _ _ z }
